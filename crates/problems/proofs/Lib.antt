@@ -5,3 +5,5 @@ pub mod Rows
 pub mod Placements
 pub mod Tuples
 pub mod Bounds
+pub mod Tables
+pub mod Amendments

@@ -1,9 +1,9 @@
 -- Problems: variables, cost functions, settings and their costs.
 use mathlib.Core.Path.{_≡_}
-use mathlib.Core.List.{List, [], _∷_, map}
+use mathlib.Core.List.{List, [], _∷_, _++_, map}
 use mathlib.Core.Bool.{cond}
-use Prim.Native.Nat.{ℕ, _+_, _*_, _<_}
-use lib.ListN.{length, getD}
+use Prim.Native.Nat.{ℕ, zero, suc, _+_, _*_, _<_}
+use lib.ListN.{length, getD, set, replicate}
 use lib.Dec.{eqb}
 use Rattle.costs.specs.Structures.{Structure, total}
 
@@ -53,3 +53,25 @@ cost K p s = total K (map (cost-at K (p .sizes) (of s)) (p .functions))
 -- a full setting has a value of its domain for every variable
 abbrev pub Full : List ℕ → List ℕ → Type 0
 Full sizes s = (length s ≡ length sizes) × ((v : ℕ) → v < length sizes → getD s v 0 < getD sizes v 0)
+
+-- one function more, with one cost at every tuple
+abbrev pub with-function : {C : Type 0} → Problem C → List ℕ → C → Problem C
+with-function p scope c = record {
+  sizes = p .sizes;
+  functions = p .functions ++ record { scope = scope; table = replicate (cells (p .sizes) scope) c } ∷ [];
+  order = p .order;
+}
+
+-- a function with one cost changed, that of a tuple
+abbrev pub costing : {C : Type 0} → List ℕ → List ℕ → C → Function C → Function C
+costing sizes tuple c f = record { scope = f .scope; table = set (f .table) (cell-from sizes 0 (f .scope) (along (f .scope) tuple)) c }
+
+-- a list with one item changed
+abbrev pub changed : {A : Type 0} → (A → A) → ℕ → List A → List A
+changed g k [] = []
+changed g zero (x ∷ xs) = g x ∷ xs
+changed g (suc k) (x ∷ xs) = x ∷ changed g k xs
+
+-- function k with one cost changed, that of a tuple
+abbrev pub with-cost : {C : Type 0} → Problem C → ℕ → List ℕ → C → Problem C
+with-cost p k tuple c = record { sizes = p .sizes; functions = changed (costing (p .sizes) tuple c) k (p .functions); order = p .order }

@@ -5,6 +5,7 @@ ghost use Prim.Native.Nat.{_≤_};
 ghost use lib.ListN.{length};
 ghost use Rattle.problems.specs.Records.{sizes-of, order-of, placed, laid-from, all-proper};
 ghost use Rattle.problems.specs.Rules.{no-order-or};
+pub use crate::drafting::MOST_CELLS;
 use crate::functions::Functions;
 use crate::order::Order;
 use crate::sizes::Sizes;

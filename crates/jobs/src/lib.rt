@@ -1,0 +1,7 @@
+// A job: one problem on its way from draft to verdict, in memory that is lent to each call.
+mod amend;
+mod close;
+mod enter;
+pub mod job;
+mod open;
+pub mod stage;
