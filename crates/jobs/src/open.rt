@@ -1,6 +1,7 @@
 // A job is made Closed, and opened with its variables' domain sizes.
 ghost use mathlib.Core.Path.{_≡_};
 ghost use lib.ListN.{length};
+ghost use Rattle.problems.specs.Outlines.{outline};
 ghost use Rattle.problems.specs.Refusals.{Answers, first-of};
 ghost use Rattle.jobs.specs.Calls.{open-rows, Opened};
 ghost use Rattle.jobs.specs.Standings.{standing, standing-of, closed, Stands};
@@ -44,5 +45,18 @@ impl<C: Cost, S> Job<C, S> {
         }
         self.plain = Plain { stage: Stage::Draft, shape, noted };
         Ok(())
+    }
+
+    pub fn stage(&self) -> Stage
+        ensures { λ r. ⌜ r ≡ standing (now (self .entry)) .stage ⌝ }
+    {
+        self.plain.stage
+    }
+
+    // What the job is apart from its cells.
+    pub fn shape(&self) -> Shape
+        ensures { λ r. ⌜ outline r ≡ standing (now (self .entry)) .outline ⌝ }
+    {
+        self.plain.shape
     }
 }

@@ -7,3 +7,4 @@ pub mod Tuples
 pub mod Bounds
 pub mod Tables
 pub mod Amendments
+pub mod Prefixes

@@ -11,9 +11,10 @@ use Rattle.problems.specs.declared.plain.Sizes.{Sizes}
 use Rattle.problems.specs.declared.plain.Order.{Order}
 use Rattle.problems.specs.declared.plain.Scope.{Scope}
 use Rattle.problems.specs.declared.plain.Setting.{Setting}
+use Rattle.problems.specs.declared.plain.Prefix.{Prefix}
 use Rattle.problems.specs.declared.plain.FunctionRecord.{FunctionRecord}
 use Rattle.problems.specs.declared.plain.Functions.{Functions}
-use Rattle.problems.specs.Problems.{Assignment, Function, cell-from, cells}
+use Rattle.problems.specs.Problems.{Assignment, of, Function, cell-from, cells}
 use Rattle.problems.specs.Rules.{proper}
 
 -- domain sizes by variable number
@@ -31,6 +32,10 @@ scope-of s = take (s .len) (s .variables)
 -- values by variable number
 abbrev pub values-of : Setting → List ℕ
 values-of s = s .values
+
+-- the values of the first variables, along the order
+abbrev pub prefix-of : Order → Prefix → List ℕ
+prefix-of o p = map (of (values-of (p .setting))) (take (p .len) (order-of o))
 
 -- what a function's record says: its scope, the bucket that it came from, and the cell at which its table starts
 pub record Placed : Type 0 where

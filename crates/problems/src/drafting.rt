@@ -3,7 +3,8 @@ ghost use mathlib.Core.Path.{_≡_};
 ghost use mathlib.Core.List.{[]};
 ghost use lib.ListN.{length};
 ghost use Rattle.problems.specs.Outlines.{outline, opened, entered, ordered, entering, amending, cell-of};
-ghost use Rattle.problems.specs.Records.{sizes-of};
+ghost use Rattle.std.specs.Options.{mapped};
+ghost use Rattle.problems.specs.Records.{sizes-of, placed-of, nth};
 ghost use Rattle.problems.specs.Refusals.{Answers, first-of};
 ghost use Rattle.problems.specs.Rules.{sizes-rows, order-rows};
 use crate::functions::FunctionRecord;
@@ -86,22 +87,29 @@ impl Shape {
         Ok(())
     }
 
-    pub fn sizes(&self) -> &Sizes
-        ensures { λ r. ⌜ now r ≡ now (self .entry) .sizes ⌝ }
+    pub fn sizes(&self) -> Sizes
+        ensures { λ r. ⌜ r ≡ now (self .entry) .sizes ⌝ }
     {
-        &self.sizes
+        self.sizes
     }
 
-    pub fn order(&self) -> &Order
-        ensures { λ r. ⌜ now r ≡ now (self .entry) .order ⌝ }
+    pub fn order(&self) -> Order
+        ensures { λ r. ⌜ r ≡ now (self .entry) .order ⌝ }
     {
-        &self.order
+        self.order
     }
 
-    pub fn functions(&self) -> &Functions
-        ensures { λ r. ⌜ now r ≡ now (self .entry) .functions ⌝ }
+    pub fn function_count(&self) -> usize
+        ensures { λ r. ⌜ r ≡ length (outline (now (self .entry)) .functions) ⌝ }
     {
-        &self.functions
+        self.functions.len()
+    }
+
+    // The record of a function by its number.
+    pub fn function(&self, number: usize) -> Option<FunctionRecord>
+        ensures { λ r. ⌜ mapped placed-of r ≡ nth (outline (now (self .entry)) .functions) number ⌝ }
+    {
+        self.functions.get(number)
     }
 
     // The cells up to the tables' end.

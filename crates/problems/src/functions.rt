@@ -48,28 +48,28 @@ impl FunctionRecord {
 }
 
 impl Functions {
-    pub fn none() -> Functions
+    pub(crate) fn none() -> Functions
         ensures { λ r. ⌜ placed r ≡ [] ⌝ }
     {
         let blank = FunctionRecord::entered(Scope::none(), 0);
         Functions { records: [blank; 64], len: 0 }
     }
 
-    pub fn len(&self) -> usize
+    pub(crate) fn len(&self) -> usize
         ensures { λ r. ⌜ r ≡ length (placed (now (self .entry))) ⌝ }
     {
         self.len
     }
 
     // The record of a function by its number.
-    pub fn get(&self, number: usize) -> Option<FunctionRecord>
+    pub(crate) fn get(&self, number: usize) -> Option<FunctionRecord>
         ensures { λ r. ⌜ mapped placed-of r ≡ nth (placed (now (self .entry))) number ⌝ }
     {
         if number < self.len { Some(self.records[number]) } else { None }
     }
 
     // One function more, under the next number.
-    pub fn push(&mut self, function: FunctionRecord) -> Result<(), Refusal>
+    pub(crate) fn push(&mut self, function: FunctionRecord) -> Result<(), Refusal>
         ensures { λ r. ⌜ Answers (first-of (function-rows (length (placed (now (self .entry)))))) r
             (λ _. placed (now (self .exit)) ≡ placed (now (self .entry)) ++ placed-of function ∷ [])
             (now (self .exit) ≡ now (self .entry)) ⌝ }

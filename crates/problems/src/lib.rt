@@ -5,6 +5,7 @@ pub mod functions;
 mod listing;
 pub mod order;
 pub mod plain;
+pub mod prefix;
 pub mod refusal;
 pub mod scope;
 pub mod setting;

@@ -12,14 +12,14 @@ use crate::sizes::MOST_VARIABLES;
 use crate::sizes::Sizes;
 
 impl Order {
-    pub fn none() -> Order
+    pub(crate) fn none() -> Order
         ensures { λ r. ⌜ order-of r ≡ [] ⌝ }
     {
         Order { variables: [0; 32], len: 0 }
     }
 
     // An order names each variable once.
-    pub fn of(variables: &[u8], sizes: &Sizes) -> Result<Order, Refusal>
+    pub(crate) fn of(variables: &[u8], sizes: &Sizes) -> Result<Order, Refusal>
         ensures { λ r. ⌜ Answers (first-of (order-rows (length (sizes-of (now (sizes .entry)))) (now (variables .entry)))) r
             (λ o. order-of o ≡ now (variables .entry)) (Unit {0}) ⌝ }
     {

@@ -33,6 +33,14 @@ pub struct Setting {
     ghost long: { length values ≡ 32 },
 }
 
+// Values of the first variables of an order, kept by variable number.
+#[derive(Clone, Copy)]
+pub struct Prefix {
+    pub(crate) setting: Setting,
+    pub(crate) len: usize,
+    ghost few: { len ≤ 32 },
+}
+
 // The variables that a function reads, none of them twice.
 #[derive(Clone, Copy)]
 pub struct Scope {

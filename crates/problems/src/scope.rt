@@ -26,7 +26,7 @@ impl Scope {
     }
 
     // A scope of at most five variables, each one known and none repeated.
-    pub fn of(variables: &[u8], sizes: &Sizes) -> Result<Scope, Refusal>
+    pub(crate) fn of(variables: &[u8], sizes: &Sizes) -> Result<Scope, Refusal>
         ensures { λ r. ⌜ Answers (first-of (scope-rows (length (sizes-of (now (sizes .entry)))) (now (variables .entry)))) r
             (λ s. scope-of s ≡ now (variables .entry)) (Unit {0}) ⌝ }
     {
@@ -86,7 +86,7 @@ impl Scope {
     }
 
     // The setting that gives this scope a tuple's values, if they are of its domains.
-    pub fn setting(&self, tuple: &[u8], sizes: &Sizes) -> Option<Setting>
+    pub(crate) fn setting(&self, tuple: &[u8], sizes: &Sizes) -> Option<Setting>
         ensures { λ r. ⌜ Cases r (fits (sizes-of (now (sizes .entry))) (scope-of (now (self .entry))) (now (tuple .entry)) ≡ false)
             (λ s. (fits (sizes-of (now (sizes .entry))) (scope-of (now (self .entry))) (now (tuple .entry)) ≡ true)
                 × ((v : ℕ) → of (values-of s) v ≡ along (scope-of (now (self .entry))) (now (tuple .entry)) v)) ⌝ }

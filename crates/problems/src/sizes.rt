@@ -21,7 +21,7 @@ impl Sizes {
     }
 
     // The sizes of a list of 1 to 32 variables, each of 1 to 16 values.
-    pub fn of(sizes: &[u8]) -> Result<Sizes, Refusal>
+    pub(crate) fn of(sizes: &[u8]) -> Result<Sizes, Refusal>
         ensures { λ r. ⌜ Answers (first-of (sizes-rows (now (sizes .entry)))) r (λ s. sizes-of s ≡ now (sizes .entry)) (Unit {0}) ⌝ }
     {
         if sizes.is_empty() || sizes.len() > MOST_VARIABLES {

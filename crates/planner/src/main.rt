@@ -1,0 +1,3 @@
+mod lines;
+
+fn main() {}
