@@ -1,3 +1,4 @@
 pub mod Stages
 pub mod Standings
 pub mod Calls
+pub mod Loading

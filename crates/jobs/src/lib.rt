@@ -3,5 +3,6 @@ mod amend;
 mod close;
 mod enter;
 pub mod job;
+mod load;
 mod open;
 pub mod stage;

@@ -1,0 +1,16 @@
+pub mod Fronts
+pub mod Firsts
+pub mod Digits
+pub mod Samples
+pub mod Rulings
+pub mod Headers
+pub mod Steps
+pub mod Values
+pub mod Amends
+pub mod Entries
+pub mod Turns
+pub mod Documents
+pub mod Radix
+pub mod Sound
+pub mod Prices
+pub mod Inside

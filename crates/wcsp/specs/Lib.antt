@@ -1,0 +1,14 @@
+pub mod Faults
+pub mod Words
+pub mod Runs
+pub mod Numbers
+pub mod Readings
+pub mod Readers
+pub mod Rules
+pub mod Layouts
+pub mod Headings
+pub mod Passes
+pub mod Tables
+pub mod Described
+pub mod Costs
+pub mod Loads
