@@ -1,1 +1,4 @@
 pub mod Lines
+pub mod Records
+pub mod Pages
+pub mod Values

@@ -4,7 +4,11 @@ use mathlib.Core.List.{List, [], _∷_, _++_}
 use Prim.Native.Nat.{ℕ, _+_}
 use lib.Dec.{ltb}
 use lib.Chars.{codes}
+use Rattle.std.specs.declared.option.Option.{Option}
+use Rattle.std.specs.declared.option.Option.the-variants.{Some, None}
 use Rattle.std.specs.Written.{decimal}
+use Rattle.wcsp.specs.declared.fault.Fault.{Fault}
+use Rattle.wcsp.specs.Faults.{flaw-number, flaw-carried}
 use Rattle.costs.specs.Structures.{cheaper}
 use Rattle.costs.specs.Kinds.{sum}
 
@@ -30,3 +34,12 @@ function-line k scope cost = (codes "function " ++ (decimal k ++ codes " (")) ++
 abbrev pub verdict-line : ℕ → ℕ → List ℕ
 verdict-line cost upper =
     codes "cost: " ++ (decimal cost ++ (codes ", " ++ (cond (cheaper sum cost upper) (codes "below") (codes "not below") ++ (codes " the upper bound " ++ (decimal upper ++ codes "\n")))))
+
+-- the number of a job's own refusal, where one is carried, and the place
+abbrev pub place-part : Option ℕ → ℕ → List ℕ
+place-part None at = codes " at byte " ++ decimal at
+place-part (Some n) at = codes " (" ++ (decimal n ++ (codes ") at byte " ++ decimal at))
+
+-- JOB: refused NUMBER at byte OFFSET
+abbrev pub refused-line : List ℕ → Fault → List ℕ
+refused-line job f = job ++ (codes ": refused " ++ (decimal (flaw-number (f .flaw)) ++ place-part (flaw-carried (f .flaw)) (f .at)))

@@ -1,20 +1,25 @@
 -- What the plain records say.
+use mathlib.Core.Path.{_≡_}
 use mathlib.Core.Bool.{Bool, true, _&&_}
 use mathlib.Core.List.{List, [], _∷_, map}
-use Prim.Native.Nat.{ℕ, zero, suc, _+_}
-use lib.ListN.{getD, take, drop}
+use Prim.Native.Nat.{ℕ, zero, suc, _+_, _<_, _≤_}
+use lib.ListN.{length, getD, take, drop}
 use lib.Dec.{eqb}
 use Rattle.std.specs.declared.option.Option.{Option}
 use Rattle.std.specs.declared.option.Option.the-variants.{Some, None}
+use Rattle.std.specs.declared.result.Result.{Result}
+use Rattle.std.specs.declared.result.Result.the-variants.{Ok, Err}
 use Rattle.costs.specs.Structures.{Structure}
 use Rattle.problems.specs.declared.plain.Sizes.{Sizes}
 use Rattle.problems.specs.declared.plain.Order.{Order}
 use Rattle.problems.specs.declared.plain.Scope.{Scope}
 use Rattle.problems.specs.declared.plain.Setting.{Setting}
+use Rattle.problems.specs.declared.plain.Misfit.{Misfit}
+use Rattle.problems.specs.declared.plain.Misfit.the-variants.{Length, Value}
 use Rattle.problems.specs.declared.plain.Prefix.{Prefix}
 use Rattle.problems.specs.declared.plain.FunctionRecord.{FunctionRecord}
 use Rattle.problems.specs.declared.plain.Functions.{Functions}
-use Rattle.problems.specs.Problems.{Assignment, of, Function, cell-from, cells}
+use Rattle.problems.specs.Problems.{Assignment, of, Full, Function, cell-from, cells}
 use Rattle.problems.specs.Rules.{proper}
 
 -- domain sizes by variable number
@@ -32,6 +37,13 @@ scope-of s = take (s .len) (s .variables)
 -- values by variable number
 abbrev pub values-of : Setting → List ℕ
 values-of s = s .values
+
+-- a setting with the listed values where they are a full one, or the first reason why they are not
+abbrev pub Fills : List ℕ → List ℕ → Result Setting Misfit → Type 0
+Fills sizes s (Ok setting) = Full sizes s × ((v : ℕ) → of (values-of setting) v ≡ of s v)
+Fills sizes s (Err Length) = length s ≡ length sizes → ⊥
+Fills sizes s (Err (Value v)) =
+    (length s ≡ length sizes) × (v < length sizes) × (getD sizes v 0 ≤ getD s v 0) × ((u : ℕ) → u < v → getD s u 0 < getD sizes u 0)
 
 -- the values of the first variables, along the order
 abbrev pub prefix-of : Order → Prefix → List ℕ

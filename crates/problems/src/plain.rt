@@ -33,6 +33,15 @@ pub struct Setting {
     ghost long: { length values ≡ 32 },
 }
 
+// Why a list of values is no full setting.
+#[derive(Clone, Copy, PartialEq, Eq, Debug)]
+pub enum Misfit {
+    // There is not one value for each variable.
+    Length,
+    // This variable has no such value.
+    Value(usize),
+}
+
 // Values of the first variables of an order, kept by variable number.
 #[derive(Clone, Copy)]
 pub struct Prefix {

@@ -2,9 +2,10 @@
 ghost use mathlib.Core.Path.{_≡_};
 ghost use Prim.Native.Nat.{ℕ};
 ghost use lib.ListN.{getD, set};
-ghost use Rattle.std.specs.Options.{Cases};
-ghost use Rattle.problems.specs.Problems.{of, Full};
-ghost use Rattle.problems.specs.Records.{sizes-of, values-of};
+ghost use Rattle.problems.specs.Problems.{of};
+ghost use Rattle.problems.specs.Records.{sizes-of, values-of, Fills};
+pub use crate::plain::Misfit;
+pub use crate::plain::MisfitDebug;
 pub use crate::plain::Setting;
 use crate::sizes::Sizes;
 
@@ -17,21 +18,20 @@ impl Setting {
     }
 
     // A full setting: a value of its domain for every variable.
-    pub fn full(values: &[u8], sizes: &Sizes) -> Option<Setting>
-        ensures { λ r. ⌜ Cases r (Full (sizes-of (now (sizes .entry))) (now (values .entry)) → ⊥)
-            (λ s. Full (sizes-of (now (sizes .entry))) (now (values .entry)) × ((v : ℕ) → of (values-of s) v ≡ of (now (values .entry)) v)) ⌝ }
+    pub fn full(values: &[u8], sizes: &Sizes) -> Result<Setting, Misfit>
+        ensures { λ r. ⌜ Fills (sizes-of (now (sizes .entry))) (now (values .entry)) r ⌝ }
     {
         if values.len() != sizes.len() {
-            return None;
+            return Err(Misfit::Length);
         }
         let mut slots = [0; 32];
         for (v, value) in values.iter().enumerate() {
             if *value >= sizes.sizes[v] {
-                return None;
+                return Err(Misfit::Value(v));
             }
             slots[v] = *value;
         }
-        Some(Setting { values: slots })
+        Ok(Setting { values: slots })
     }
 
     // One variable's value; a variable past the last slot has none.

@@ -4,8 +4,8 @@ use mathlib.Core.Bool.{true}
 use mathlib.Core.List.{List, [], _∷_, _++_}
 use Prim.Native.Nat.{ℕ, _<_}
 use native.Mathlib.Omega.{arith}
-use lib.ListN.{length, set}
-use Rattle.std.specs.declared.result.Result.the-variants.{Ok, Err}
+use lib.ListN.{length}
+use Rattle.std.specs.declared.result.Result.the-variants.{Ok}
 use Rattle.problems.specs.Problems.{of, along, cells, cell-from}
 use Rattle.problems.specs.Rules.{fits}
 use Rattle.problems.proofs.Bounds.{cell-below, fits-ranged}

@@ -2,19 +2,16 @@
 use mathlib.Core.Path.{_≡_, refl, sym, ap, _∙_}
 use mathlib.Core.List.{List, [], _∷_, _++_, map}
 use Prim.Native.Nat.{ℕ, _+_, _≤_}
-use native.Mathlib.Nat.{add-assoc}
 use native.Mathlib.Omega.{arith}
 use lib.ListN.{length, take, drop}
-use Rattle.std.specs.declared.result.Result.the-variants.{Ok, Err}
-use Rattle.std.proofs.shelf.Lists.{append-assoc, append-nil, length-append, length-take-le, take-at, drop-at, map-append, length-drop}
+use Rattle.std.specs.declared.result.Result.the-variants.{Ok}
+use Rattle.std.proofs.shelf.Lists.{append-assoc, append-nil, length-append, length-take-le, take-at, drop-at}
 use Rattle.problems.specs.Outlines.{Outline, opened, entered, problem}
-use Rattle.problems.specs.Problems.{Function, Problem, cells}
+use Rattle.problems.specs.Problems.{cells}
 use Rattle.problems.specs.Records.{Placed, function-in}
 use Rattle.wcsp.specs.declared.heading.Heading.{Heading as Kept}
 use Rattle.wcsp.specs.declared.reader.Reader.{Reader}
-use Rattle.wcsp.specs.declared.fault.Fault.{Fault}
 use Rattle.wcsp.specs.Words.{Word, words}
-use Rattle.wcsp.specs.Readings.{Reading, fault}
 use Rattle.wcsp.specs.Readers.{text-of, left-of}
 use Rattle.wcsp.specs.Headings.{Heads}
 use Rattle.wcsp.specs.Layouts.{Heading, Entry, Document, heading, sizes-from, entries-from, nothing-left, document}
@@ -71,16 +68,15 @@ tables-there sizes (e ∷ es) before behind at h =
     let long = length-table sizes e in
     let regroup : before ++ (tables sizes (e ∷ es) ++ behind) ≡ (before ++ t) ++ rest = ap (λ xs. before ++ xs) (append-assoc t (tables sizes es) behind) ∙ sym (append-assoc before t rest) in
     let here : take (cells sizes (e .scope)) (drop at (before ++ (tables sizes (e ∷ es) ++ behind))) ≡ t =
-      ap (take (cells sizes (e .scope))) (drop-at before (tables sizes (e ∷ es) ++ behind) at h ∙ append-assoc t (tables sizes es) behind) ∙ take-at t rest (cells sizes (e .scope)) long in
+    ap (take (cells sizes (e .scope))) (drop-at before (tables sizes (e ∷ es) ++ behind) at h ∙ append-assoc t (tables sizes es) behind) ∙ take-at t rest (cells sizes (e .scope)) long in
     let next : length (before ++ t) ≡ at + cells sizes (e .scope) = omega (arith, length-append before t) in
     let others = ap (λ a. map (function-in sizes a) (placed-from sizes (at + cells sizes (e .scope)) es)) regroup ∙ tables-there sizes es (before ++ t) behind (at + cells sizes (e .scope)) next in
     ap (λ t. record { scope = e .scope; table = t } ∷ map (function-in sizes (before ++ (tables sizes (e ∷ es) ++ behind))) (placed-from sizes (at + cells sizes (e .scope)) es)) here
-      ∙ ap (λ fs. function-of sizes e ∷ fs) others
+    ∙ ap (λ fs. function-of sizes e ∷ fs) others
 
 module _ (d : Document) (area area′ : List ℕ) (room : 2 ≤ length area) (same : area′ ≡ laid area 2 (tables (d .sizes) (d .entries))) where
   abbrev o : Outline
   o = outlined d
-
 
   pub problem-there : problem o area′ ≡ described d
   problem-there =
@@ -88,8 +84,8 @@ module _ (d : Document) (area area′ : List ℕ) (room : 2 ≤ length area) (sa
       let order = entered-order (opened (d .sizes)) (d .entries) in
       let placed = entered-placed (opened (d .sizes)) (d .entries) in
       let functions : map (function-in (o .sizes) area′) (o .functions) ≡ map (function-of (d .sizes)) (d .entries) =
-        ap (λ z. map (function-in z area′) (o .functions)) sizes ∙ ap (map (function-in (d .sizes) area′)) placed ∙ ap (λ a. map (function-in (d .sizes) a) (placed-from (d .sizes) 2 (d .entries))) same
-          ∙ tables-there (d .sizes) (d .entries) (take 2 area) (drop (2 + length (tables (d .sizes) (d .entries))) area) 2 (length-take-le 2 area room) in
+      ap (λ z. map (function-in z area′) (o .functions)) sizes ∙ ap (map (function-in (d .sizes) area′)) placed ∙ ap (λ a. map (function-in (d .sizes) a) (placed-from (d .sizes) 2 (d .entries))) same
+      ∙ tables-there (d .sizes) (d .entries) (take 2 area) (drop (2 + length (tables (d .sizes) (d .entries))) area) 2 (length-take-le 2 area room) in
       cc
 
   pub before-same : take 2 area′ ≡ take 2 area

@@ -1,13 +1,12 @@
 -- Functions of a text, entered one by one.
 use mathlib.Core.Path.{_≡_, refl, sym, ap, _∙_}
-use mathlib.Core.Bool.{Bool, true, false, cond, not}
+use mathlib.Core.Bool.{true}
 use mathlib.Core.List.{List, [], _∷_, _++_}
-use Prim.Native.Nat.{ℕ, _+_, _-_, _≤_, _<_, min}
+use Prim.Native.Nat.{ℕ, _+_, _-_, _≤_, min}
 use native.Mathlib.Omega.{arith}
 use borrow.Rule.Slice.PartMut.{putMid}
-use lib.Dec.{leb, ltb}
-use lib.ListN.{length, take, drop, set, replicate}
-use Rattle.std.specs.declared.option.Option.the-variants.{Some, None}
+use lib.ListN.{length, take, drop, replicate}
+use Rattle.std.specs.declared.option.Option.the-variants.{None}
 use Rattle.std.specs.declared.result.Result.the-variants.{Ok, Err}
 use Rattle.std.proofs.shelf.Lists.{take-append-drop, drop-drop, length-set, length-replicate}
 use Rattle.std.proofs.shelf.Ways.{tells}
@@ -51,7 +50,6 @@ module _ (text text₁ text₂ area : List ℕ) (o o′ : Outline) (sizes scope 
     (k₁ : text₁ ≡ text) (k₂ : text₂ ≡ text₁) (same : sizes ≡ o .sizes) (begins : start ≡ o .used) (ends : end ≡ o′ .used)
     (a : (y : List ℕ) × (scoped (length text) (length sizes) words ≡ Ok (y, ws₁)) × ((scope ≡ y) × (proper (length sizes) y ≡ true)))
     (b : (u : ℕ) × (number-by (length text₁) (room-rule (length area) (o .used) (cells (o .sizes) scope)) ws₁ ≡ Ok (u, ws₂)) × ((usual ≡ u) × (o′ ≡ entered o scope))) where
-
   pub entry-fault : (e : Fault) → listings (length text₂) sizes scope ws₂ ≡ Err e → entry (length text) (length area) (o .sizes) (o .used) words ≡ Err e
   entry-fault e c =
       let a₁ = a .1 in

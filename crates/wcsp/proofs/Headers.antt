@@ -1,18 +1,15 @@
 -- A heading, put together from its words.
-use mathlib.Core.Path.{_≡_, refl, sym, ap, _∙_}
-use mathlib.Core.Bool.{_&&_}
-use mathlib.Core.List.{List}
+use mathlib.Core.Path.{_≡_, refl, sym}
 use Prim.Native.Nat.{ℕ, _≤_}
-use native.Mathlib.Omega.{arith}
 use lib.Dec.{leb}
 use lib.ListN.{length}
-use Rattle.std.specs.declared.result.Result.the-variants.{Ok, Err}
+use Rattle.std.specs.declared.result.Result.the-variants.{Ok}
 use Rattle.std.proofs.shelf.Tests.{and-parts, leb-true}
 use Rattle.problems.specs.declared.refusal.Refusal.the-variants.{Variables, Functions}
 use Rattle.wcsp.specs.Words.{Word}
-use Rattle.wcsp.specs.Readings.{Reading, next}
+use Rattle.wcsp.specs.Readings.{next}
 use Rattle.wcsp.specs.Rules.{any, variables-rule, count-rule}
-use Rattle.wcsp.specs.Layouts.{Heading, number-by, heading}
+use Rattle.wcsp.specs.Layouts.{number-by, heading}
 use Rattle.wcsp.specs.declared.reader.Reader.{Reader}
 use Rattle.wcsp.specs.Readers.{text-of, left-of}
 use Rattle.wcsp.specs.Headings.{Heads}
@@ -25,7 +22,6 @@ module _ (s s₁ s₂ s₃ s₄ s₅ : Reader) (w : Word) (v l f u : ℕ)
     (c : Ok (l, left-of s₃) ≡ number-by (length (text-of s₂)) any (left-of s₂))
     (d : Ok (f, left-of s₄) ≡ number-by (length (text-of s₃)) count-rule (left-of s₃))
     (e : Ok (u, left-of s₅) ≡ number-by (length (text-of s₄)) any (left-of s₄)) where
-
   pub heading-read : heading (length (text-of s)) (left-of s) ≡ Ok (record { name = w .bytes; variables = v; largest = l; functions = f; upper = u }, left-of s₅)
   heading-read = cc
 

@@ -14,3 +14,4 @@ pub mod Radix
 pub mod Sound
 pub mod Prices
 pub mod Inside
+pub mod Names

@@ -1,15 +1,14 @@
 -- Tuples of their domains' values have cells of their own.
 use mathlib.Core.Path.{_≡_, refl, sym, ap, _∙_}
-use mathlib.Core.Bool.{Bool, true, false, not, cond, _&&_, _||_}
-use mathlib.Core.Logic.{_⊎_, inl, inr}
+use mathlib.Core.Bool.{Bool, true, false, not, cond}
+use mathlib.Core.Logic.{inl, inr}
 use mathlib.Core.List.{List, [], _∷_}
-use Prim.Native.Nat.{ℕ, zero, suc, _+_, _*_, _≤_, _<_}
+use Prim.Native.Nat.{ℕ, suc, _+_, _*_, _<_}
 use native.Mathlib.Nat.{suc-mul, mul-le-mul-right}
 use native.Mathlib.Omega.{arith}
 use lib.Dec.{eqb, ltb}
-use lib.ListN.{length, getD}
-use Rattle.std.proofs.shelf.Tests.{and-parts, cases-order, ltb-true, eq-eqb, ne-eqb, eqb-true, not-true, or-left, or-right}
-use Rattle.std.proofs.shelf.Ways.{tells}
+use lib.ListN.{getD}
+use Rattle.std.proofs.shelf.Tests.{and-parts, cases-order, ltb-true, eq-eqb, ne-eqb, not-true, or-left, or-right}
 use Rattle.problems.specs.Lists.{has, distinct}
 use Rattle.problems.specs.Problems.{Assignment, along, cell-from}
 use Rattle.problems.specs.Rules.{fits}
@@ -33,7 +32,7 @@ module _ (sizes : List ℕ) where
   same-on [] at a b h = refl
   same-on (v ∷ vs) at a b h =
       ap (λ x. cell-from sizes (at * getD sizes v 0 + x) vs a) (h v (or-left (eqb v v) (has vs v) (eq-eqb v v refl)))
-        ∙ same-on vs (at * getD sizes v 0 + b v) a b (λ u k. h u (or-right (eqb v u) (has vs u) k))
+      ∙ same-on vs (at * getD sizes v 0 + b v) a b (λ u k. h u (or-right (eqb v u) (has vs u) k))
 
   tail-along : (v x : ℕ) (vs xs : List ℕ) → has vs v ≡ false → (u : ℕ) → has vs u ≡ true → along (v ∷ vs) (x ∷ xs) u ≡ along vs xs u
   tail-along v x vs xs new u h = elim (cases-order v u) [
@@ -49,8 +48,8 @@ module _ (sizes : List ℕ) where
       let new = not-true (has vs v) (and-parts (not (has vs v)) (distinct vs) d .0) in
       let first = ap (λ t. cond t x (along vs xs v)) (eq-eqb v v refl) in
       ap (λ y. cell-from sizes (at * getD sizes v 0 + y) vs (along (v ∷ vs) (x ∷ xs))) first
-        ∙ same-on vs (at * getD sizes v 0 + x) (along (v ∷ vs) (x ∷ xs)) (along vs xs) (tail-along v x vs xs new)
-        ∙ cell-place vs xs (at * getD sizes v 0 + x) (and-parts (not (has vs v)) (distinct vs) d .1) (and-parts (ltb x (getD sizes v 0)) (fits sizes vs xs) h .1)
+      ∙ same-on vs (at * getD sizes v 0 + x) (along (v ∷ vs) (x ∷ xs)) (along vs xs) (tail-along v x vs xs new)
+      ∙ cell-place vs xs (at * getD sizes v 0 + x) (and-parts (not (has vs v)) (distinct vs) d .1) (and-parts (ltb x (getD sizes v 0)) (fits sizes vs xs) h .1)
 
   place-apart : (vs xs ys : List ℕ) (at bt : ℕ) → fits sizes vs xs ≡ true → fits sizes vs ys ≡ true → place at vs xs ≡ place bt vs ys → (at ≡ bt) × (xs ≡ ys)
   place-apart [] [] [] at bt h k e = (e, refl)

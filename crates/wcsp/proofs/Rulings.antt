@@ -1,22 +1,19 @@
 -- Numbers that were read keep their rules.
 use mathlib.Core.Path.{_≡_, refl, sym, ap, _∙_}
-use mathlib.Core.Bool.{Bool, true, false, cond, not, _&&_, _||_}
+use mathlib.Core.Bool.{Bool, true, false, not}
 use mathlib.Core.List.{List, [], _∷_, _++_}
 use Prim.Native.Nat.{ℕ, _≤_, _<_}
 use native.Mathlib.Omega.{arith}
-use lib.Dec.{leb, ltb}
 use lib.ListN.{length}
 use Rattle.std.specs.declared.option.Option.{Option}
 use Rattle.std.specs.declared.option.Option.the-variants.{Some, None}
-use Rattle.std.specs.declared.result.Result.{Result}
 use Rattle.std.specs.declared.result.Result.the-variants.{Ok, Err}
 use Rattle.std.proofs.shelf.Ways.{tells}
 use Rattle.problems.specs.declared.refusal.Refusal.{Refusal}
 use Rattle.problems.specs.declared.refusal.Refusal.the-variants.{Scope}
 use Rattle.problems.specs.Refusals.{first-of}
-use Rattle.problems.specs.Rules.{size-rows, variable-rows, chosen, proper, barred}
+use Rattle.problems.specs.Rules.{size-rows, proper, barred}
 use Rattle.problems.proofs.Listings.{chosen-push}
-use Rattle.wcsp.specs.declared.fault.Fault.{Fault}
 use Rattle.wcsp.specs.declared.fault.Flaw.{Flaw}
 use Rattle.wcsp.specs.declared.fault.Flaw.the-variants.{Rule}
 use Rattle.wcsp.specs.declared.number.Number.{Number}
@@ -52,14 +49,8 @@ rule-broken stop rule words n left flaw h k = ap (λ m. and-then m (λ n ws. rul
 pub size-refused : (sizes : List ℕ) (size max : ℕ) (why : Refusal) → length sizes < 32 → first-of (size-rows sizes size) ≡ Some why → size-rule max size ≡ Some (Rule why)
 size-refused sizes size max why few h = grind (arith, tells)
 
--- a variable that the record refuses, and one that it takes
+-- a scope with one variable more
 module _ (n : ℕ) (scope : List ℕ) (v : ℕ) (few : length scope < 5) where
-  pub variable-refused : (why : Refusal) → first-of (variable-rows n scope v) ≡ Some why → variable-rule n scope v ≡ Some (Rule why)
-  variable-refused why h = grind (arith, tells)
-
-  pub variable-taken : first-of (variable-rows n scope v) ≡ None → variable-rule n scope v ≡ None
-  variable-taken h = grind (arith, tells)
-
   pub still-proper : proper n scope ≡ true → variable-rule n scope v ≡ None → proper n (scope ++ v ∷ []) ≡ true
   still-proper p h =
       let good : barred 5 n scope v ≡ false = grind (arith, tells) in

@@ -1,25 +1,23 @@
 -- What was read keeps the rules: scopes repeat no variable, and listed tuples fit.
 use mathlib.Core.Path.{_≡_, refl, sym, ap, subst, _∙_}
-use mathlib.Core.Bool.{Bool, true, false, not, cond, _&&_, _||_}
+use mathlib.Core.Bool.{true, not, _&&_}
 use mathlib.Core.List.{List, [], _∷_, _++_}
-use Prim.Native.Nat.{ℕ, zero, suc, _+_, _≤_, _<_}
+use Prim.Native.Nat.{ℕ, zero, suc, _+_}
 use native.Mathlib.Omega.{arith}
-use lib.Dec.{eqb, ltb}
+use lib.Dec.{ltb}
 use lib.ListN.{length, getD}
-use Rattle.std.specs.declared.result.Result.{Result}
 use Rattle.std.specs.declared.result.Result.the-variants.{Ok, Err}
 use Rattle.std.proofs.shelf.Lists.{append-assoc, append-nil}
-use Rattle.std.proofs.shelf.Tests.{and-parts, and-from, not-true}
+use Rattle.std.proofs.shelf.Tests.{and-parts, and-from}
 use Rattle.problems.specs.declared.refusal.Refusal.the-variants.{Scope, Tuple}
 use Rattle.problems.specs.Lists.{has, distinct}
 use Rattle.problems.specs.Problems.{cells}
 use Rattle.problems.specs.Rules.{fits}
 use Rattle.problems.proofs.Listings.{distinct-push}
-use Rattle.wcsp.specs.declared.fault.Fault.{Fault}
 use Rattle.wcsp.specs.Words.{Word}
 use Rattle.wcsp.specs.Readings.{Reading, and-then}
 use Rattle.wcsp.specs.Rules.{any, arity-rule, variable-rule, room-rule, value-rule}
-use Rattle.wcsp.specs.Layouts.{Listed, Entry, Document, Heading, number-by, heading, sizes-from, scope-from, scoped, tuple-from, listing, listed-from, listings, entry, entries-from, nothing-left, all-of, document}
+use Rattle.wcsp.specs.Layouts.{Listed, Entry, Document, number-by, heading, sizes-from, scope-from, scoped, tuple-from, listing, listed-from, listings, entry, entries-from, nothing-left, all-of, document}
 use Rattle.wcsp.proofs.Rulings.{rule-kept, kept-true}
 
 -- what was read after something was
@@ -80,20 +78,20 @@ module _ (stop : ℕ) (sizes : List ℕ) where
   entry-sound : (area used : ℕ) (words : List Word) (e : Entry) (left : List Word) → entry stop area sizes used words ≡ Ok (e, left) → Sound e
   entry-sound area used words e left h =
       let a = then-inv (scoped stop (length sizes) words) (λ scope ws₁.
-        and-then (number-by stop (room-rule area used (cells sizes scope)) ws₁) (λ usual ws₂.
-        and-then (listings stop sizes scope ws₂) (λ listed ws₃.
-        Ok (record { scope = scope; usual = usual; listed = listed }, ws₃)))) e left h in
+      and-then (number-by stop (room-rule area used (cells sizes scope)) ws₁) (λ usual ws₂.
+      and-then (listings stop sizes scope ws₂) (λ listed ws₃.
+      Ok (record { scope = scope; usual = usual; listed = listed }, ws₃)))) e left h in
       let scope = a .0 in
       let b = then-inv (number-by stop (room-rule area used (cells sizes scope)) (a .1 .0)) (λ usual ws₂.
-        and-then (listings stop sizes scope ws₂) (λ listed ws₃.
-        Ok (record { scope = scope; usual = usual; listed = listed }, ws₃))) e left (a .1 .2) in
+      and-then (listings stop sizes scope ws₂) (λ listed ws₃.
+      Ok (record { scope = scope; usual = usual; listed = listed }, ws₃))) e left (a .1 .2) in
       let c = then-inv (listings stop sizes scope (b .1 .0)) (λ listed ws₃. Ok (record { scope = scope; usual = b .0; listed = listed }, ws₃)) e left (b .1 .2) in
       let is = ok-value (record { scope = scope; usual = b .0; listed = c .0 }) e (c .1 .0) left (c .1 .2) in
       let s = then-inv (number-by stop arity-rule words) (λ arity ws. scope-from stop (length sizes) arity [] ws) scope (a .1 .0) (a .1 .1) in
       let l = then-inv (number-by stop any (b .1 .0)) (λ count ws. listed-from stop sizes scope count [] ws) (c .0) (c .1 .0) (c .1 .1) in
       subst Sound is (
         scope-distinct (length sizes) (s .0) [] (s .1 .0) scope (a .1 .0) refl (s .1 .2),
-        listed-fit scope (l .0) [] (l .1 .0) (c .0) (c .1 .0) tt (l .1 .2)
+        listed-fit scope (l .0) [] (l .1 .0) (c .0) (c .1 .0) tt (l .1 .2),
       )
 
   abbrev pub AllSound : List Entry → Type 0
@@ -122,17 +120,17 @@ all-inv (Err e) d h = absurd (let z : _≡_ {A = ℕ} 0 1 = cc in omega arith)
 pub document-sound : (stop area : ℕ) (words : List Word) (d : Document) → document stop area words ≡ Ok d → AllSound stop (d .sizes) (d .entries)
 document-sound stop area words d h =
     let m = all-inv (and-then (heading stop words) (λ h ws₁.
-      and-then (sizes-from stop (h .largest) (h .variables) [] ws₁) (λ sizes ws₂.
-      and-then (entries-from stop area sizes (h .functions) 2 [] ws₂) (λ entries ws₃.
-      Ok (record { name = h .name; upper = h .upper; sizes = sizes; entries = entries }, ws₃))))) d h in
+    and-then (sizes-from stop (h .largest) (h .variables) [] ws₁) (λ sizes ws₂.
+    and-then (entries-from stop area sizes (h .functions) 2 [] ws₂) (λ entries ws₃.
+    Ok (record { name = h .name; upper = h .upper; sizes = sizes; entries = entries }, ws₃))))) d h in
     let a = then-inv (heading stop words) (λ h ws₁.
-      and-then (sizes-from stop (h .largest) (h .variables) [] ws₁) (λ sizes ws₂.
-      and-then (entries-from stop area sizes (h .functions) 2 [] ws₂) (λ entries ws₃.
-      Ok (record { name = h .name; upper = h .upper; sizes = sizes; entries = entries }, ws₃)))) d [] m in
+    and-then (sizes-from stop (h .largest) (h .variables) [] ws₁) (λ sizes ws₂.
+    and-then (entries-from stop area sizes (h .functions) 2 [] ws₂) (λ entries ws₃.
+    Ok (record { name = h .name; upper = h .upper; sizes = sizes; entries = entries }, ws₃)))) d [] m in
     let b = then-inv (sizes-from stop (a .0 .largest) (a .0 .variables) [] (a .1 .0)) (λ sizes ws₂.
-      and-then (entries-from stop area sizes (a .0 .functions) 2 [] ws₂) (λ entries ws₃.
-      Ok (record { name = a .0 .name; upper = a .0 .upper; sizes = sizes; entries = entries }, ws₃))) d [] (a .1 .2) in
+    and-then (entries-from stop area sizes (a .0 .functions) 2 [] ws₂) (λ entries ws₃.
+    Ok (record { name = a .0 .name; upper = a .0 .upper; sizes = sizes; entries = entries }, ws₃))) d [] (a .1 .2) in
     let c = then-inv (entries-from stop area (b .0) (a .0 .functions) 2 [] (b .1 .0)) (λ entries ws₃.
-      Ok (record { name = a .0 .name; upper = a .0 .upper; sizes = b .0; entries = entries }, ws₃)) d [] (b .1 .2) in
+    Ok (record { name = a .0 .name; upper = a .0 .upper; sizes = b .0; entries = entries }, ws₃)) d [] (b .1 .2) in
     let is = ok-value (record { name = a .0 .name; upper = a .0 .upper; sizes = b .0; entries = c .0 }) d (c .1 .0) [] (c .1 .2) in
     subst (λ (d : Document). AllSound stop (d .sizes) (d .entries)) is (entries-sound stop (b .0) area (a .0 .functions) 2 [] (b .1 .0) (c .0) (c .1 .0) tt (c .1 .1))

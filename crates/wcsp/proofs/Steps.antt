@@ -1,7 +1,7 @@
 -- Reading a list, item by item.
-use mathlib.Core.Path.{_≡_, sym, ap, _∙_}
+use mathlib.Core.Path.{_≡_, ap, _∙_}
 use mathlib.Core.List.{List, [], _∷_, _++_}
-use Prim.Native.Nat.{ℕ, zero, suc, _+_, _-_, _≤_, _<_}
+use Prim.Native.Nat.{ℕ, suc, _+_, _-_, _<_}
 use native.Mathlib.Omega.{arith}
 use Rattle.std.specs.declared.result.Result.the-variants.{Ok, Err}
 use Rattle.wcsp.specs.declared.fault.Fault.{Fault}
@@ -22,8 +22,3 @@ module _ {X : Type 0} (all : ℕ → List X → List Word → Reading (List X)) 
 
   pub one-fault : (e : Fault) → i < count → one done words ≡ Err e → all (count - i) done words ≡ Err e
   one-fault e h k = split h ∙ ap (λ m. and-then m (λ x ws. all (count - (i + 1)) (done ++ x ∷ []) ws)) k
-
-  pub no-more : all 0 done words ≡ Ok (done, words) → count ≤ i → all (count - i) done words ≡ Ok (done, words)
-  no-more end h =
-      let k : count - i ≡ 0 = omega arith in
-      ap (λ n. all n done words) k ∙ end

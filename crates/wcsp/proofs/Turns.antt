@@ -1,8 +1,8 @@
 -- One more function of a text, behind those that are entered.
 use mathlib.Core.Path.{_≡_, refl, sym, ap, _∙_}
 use mathlib.Core.List.{List, [], _∷_, _++_}
-use Prim.Native.Nat.{ℕ, zero, suc, _+_, _-_, _≤_, _<_, min}
-use native.Mathlib.Nat.{add-assoc, add-zero}
+use Prim.Native.Nat.{ℕ, suc, _+_, _-_, _≤_, _<_}
+use native.Mathlib.Nat.{add-zero}
 use native.Mathlib.Omega.{arith}
 use lib.ListN.{length, take, drop}
 use Rattle.std.specs.declared.result.Result.the-variants.{Ok, Err}
@@ -49,9 +49,9 @@ laid-more area at t u h =
     let behind : drop (at + length t) (laid area at t) ≡ rest = ap (drop (at + length t)) regroup ∙ drop-at (take at area ++ t) rest (at + length t) long in
     let sum : at + length t + length u ≡ at + length (t ++ u) = omega (arith, length-append t u) in
     let after : drop (at + length t + length u) (laid area at t) ≡ drop (at + length (t ++ u)) area =
-      sym (drop-drop (length u) (at + length t) (laid area at t)) ∙ ap (drop (length u)) behind ∙ drop-drop (length u) (at + length t) area ∙ ap (λ n. drop n area) sum in
+    sym (drop-drop (length u) (at + length t) (laid area at t)) ∙ ap (drop (length u)) behind ∙ drop-drop (length u) (at + length t) area ∙ ap (λ n. drop n area) sum in
     ap (λ xs. xs ++ (u ++ drop (at + length t + length u) (laid area at t))) before ∙ ap (λ xs. (take at area ++ t) ++ (u ++ xs)) after
-      ∙ append-assoc (take at area) t (u ++ drop (at + length (t ++ u)) area) ∙ ap (λ xs. take at area ++ xs) (sym (append-assoc t u (drop (at + length (t ++ u)) area)))
+    ∙ append-assoc (take at area) t (u ++ drop (at + length (t ++ u)) area) ∙ ap (λ xs. take at area ++ xs) (sym (append-assoc t u (drop (at + length (t ++ u)) area)))
 
 pub laid-none : (area : List ℕ) (at : ℕ) → laid area at [] ≡ area
 laid-none area at = ap (λ n. take at area ++ drop n area) (add-zero at) ∙ take-append-drop at area
@@ -69,9 +69,9 @@ module _ (text text₀ area area₀ : List ℕ) (o o₀ : Outline) (done : List 
   split =
       let n : count - k ≡ suc (count - (k + 1)) = omega arith in
       ap (λ n. entries-from (length text₀) (length area₀) (o₀ .sizes) n (o .used) done words) n
-        ∙ ap (λ t. and-then (entry (length t) (length area₀) (o₀ .sizes) (o .used) words) later) (sym whole)
-        ∙ ap (λ n. and-then (entry (length text) n (o₀ .sizes) (o .used) words) later) (sym long)
-        ∙ ap (λ z. and-then (entry (length text) (length area) z (o .used) words) later) (sym same-sizes)
+      ∙ ap (λ t. and-then (entry (length t) (length area₀) (o₀ .sizes) (o .used) words) later) (sym whole)
+      ∙ ap (λ n. and-then (entry (length text) n (o₀ .sizes) (o .used) words) later) (sym long)
+      ∙ ap (λ z. and-then (entry (length text) (length area) z (o .used) words) later) (sym same-sizes)
 
   pub entries-fault : (e : Fault) → entry (length text) (length area) (o .sizes) (o .used) words ≡ Err e
       → entries-from (length text₀) (length area₀) (o₀ .sizes) (count - k) (o .used) done words ≡ Err e
@@ -79,7 +79,7 @@ module _ (text text₀ area area₀ : List ℕ) (o o₀ : Outline) (done : List 
 
   pub entries-more : (o′ : Outline) (e : Entry) (left : List Word) → entry (length text) (length area) (o .sizes) (o .used) words ≡ Ok (e, left) → o′ ≡ entered o (e .scope)
       → entries-from (length text₀) (length area₀) (o₀ .sizes) (count - k) (o .used) done words
-        ≡ entries-from (length text₀) (length area₀) (o₀ .sizes) (count - (k + 1)) (o′ .used) (done ++ e ∷ []) left
+      ≡ entries-from (length text₀) (length area₀) (o₀ .sizes) (count - (k + 1)) (o′ .used) (done ++ e ∷ []) left
   entries-more o′ e left b s =
       let used : o .used + cells (o₀ .sizes) (e .scope) ≡ o′ .used = ap (λ z. o .used + cells z (e .scope)) (sym same-sizes) ∙ ap (λ (z : Outline). z .used) (sym s) in
       split ∙ ap (λ m. and-then m later) b ∙ ap (λ n. entries-from (length text₀) (length area₀) (o₀ .sizes) (count - (k + 1)) n (done ++ e ∷ []) left) used
@@ -93,4 +93,4 @@ module _ (text text₀ area area₀ : List ℕ) (o o₀ : Outline) (done : List 
       let at = ap (λ (z : Outline). z .used) shape ∙ entered-used o₀ done in
       let base = laid area₀ (o₀ .used) (tables (o₀ .sizes) done) in
       ap (λ n. laid base n (table-of (o .sizes) e)) at ∙ ap (λ z. laid base (o₀ .used + length (tables (o₀ .sizes) done)) (table-of z e)) same-sizes
-        ∙ laid-more area₀ (o₀ .used) (tables (o₀ .sizes) done) (table-of (o₀ .sizes) e) room ∙ ap (laid area₀ (o₀ .used)) (sym (tables-push (o₀ .sizes) done e))
+      ∙ laid-more area₀ (o₀ .used) (tables (o₀ .sizes) done) (table-of (o₀ .sizes) e) room ∙ ap (laid area₀ (o₀ .used)) (sym (tables-push (o₀ .sizes) done e))

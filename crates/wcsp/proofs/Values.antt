@@ -1,16 +1,15 @@
 -- One more value of a tuple.
-use mathlib.Core.Path.{_≡_, refl, sym, ap, _∙_}
-use mathlib.Core.Bool.{Bool, true, false, cond, _&&_}
-use mathlib.Core.Logic.{_⊎_, inl, inr}
+use mathlib.Core.Path.{_≡_, sym, ap, _∙_}
+use mathlib.Core.Bool.{true, cond}
+use mathlib.Core.Logic.{inl, inr}
 use mathlib.Core.List.{List, [], _∷_, _++_}
-use Prim.Native.Nat.{ℕ, suc, _+_, _≤_, _<_}
+use Prim.Native.Nat.{ℕ, _+_, _≤_, _<_}
 use native.Mathlib.Omega.{arith}
-use lib.Dec.{eqb, ltb}
+use lib.Dec.{ltb}
 use lib.ListN.{length, getD, set, take, drop}
 use Rattle.std.specs.declared.result.Result.the-variants.{Ok, Err}
-use Rattle.std.proofs.shelf.Lists.{at-drop-more, at-drop-all, take-more, take-all, getD-set-same, getD-set-other}
+use Rattle.std.proofs.shelf.Lists.{at-drop-more, at-drop-all, take-more, getD-set-same, getD-set-other}
 use Rattle.std.proofs.shelf.Tests.{cases-eq, eq-eqb, ne-eqb}
-use Rattle.std.proofs.shelf.Ways.{tells}
 use Rattle.problems.specs.Lists.{distinct}
 use Rattle.problems.specs.Problems.{along}
 use Rattle.problems.specs.Rules.{fits}

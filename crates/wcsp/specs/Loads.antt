@@ -25,8 +25,8 @@ use Rattle.wcsp.specs.Described.{outlined, tables, described}
 abbrev pub loading : List ℕ → ℕ → Result Document Fault
 loading text area =
     cond (leb (length text) 65535)
-      (cond (leb 2 area && leb area 16384) (document (length text) area (words text)) (fault (Job Area) 0))
-      (fault TextLength 0)
+    (cond (leb 2 area && leb area 16384) (document (length text) area (words text)) (fault (Job Area) 0))
+    (fault TextLength 0)
 
 -- what is loaded is what the text says; of the area only the tables' cells change
 pub record Loads (l : Loaded) (d : Document) (area area′ : List ℕ) : Type 0 where

@@ -30,7 +30,10 @@ impl<'a> Reader<'a> {
             return Err(number.breaks(why));
         }
         if number.value > largest {
-            return Err(Fault { flaw: Flaw::AboveMaximum, at: number.at });
+            return Err(Fault {
+                flaw: Flaw::AboveMaximum,
+                at: number.at,
+            });
         }
         Ok(())
     }

@@ -47,7 +47,7 @@ impl<'a> Reader<'a> {
         ensures checked { λ _. ⌜ (pass ≡ Checking → now (area .exit) ≡ now (area .entry)) ⌝ }
         ensures read { λ r. ⌜ Agrees (entry (length (text-of (now (self .entry)))) (length (now (area .entry))) (outline (now (shape .entry)) .sizes) (outline (now (shape .entry)) .used) (left-of (now (self .entry)))) r (left-of (now (self .exit)))
             (λ _ e. (outline (now (shape .exit)) ≡ entered (outline (now (shape .entry))) (e .scope))
-                × (now (area .exit) ≡ by-pass pass (now (area .entry)) (laid (now (area .entry)) (outline (now (shape .entry)) .used) (table-of (outline (now (shape .entry)) .sizes) e)))) ⌝ }
+            × (now (area .exit) ≡ by-pass pass (now (area .entry)) (laid (now (area .entry)) (outline (now (shape .entry)) .used) (table-of (outline (now (shape .entry)) .sizes) e)))) ⌝ }
     {
         let sizes = shape.sizes();
         let start = shape.used();
@@ -59,7 +59,13 @@ impl<'a> Reader<'a> {
     }
 
     // So many functions.
-    pub(crate) fn entries(&mut self, count: u32, shape: &mut Shape, area: &mut [u32], pass: Pass) -> Result<(), Fault>
+    pub(crate) fn entries(
+        &mut self,
+        count: u32,
+        shape: &mut Shape,
+        area: &mut [u32],
+        pass: Pass,
+    ) -> Result<(), Fault>
         requires few { ⌜ length (outline (now shape) .functions) + count ≤ 64 ⌝ }
         requires small { ⌜ length (now area) ≤ 16384 ⌝ }
         requires used { ⌜ outline (now shape) .used ≤ length (now area) ⌝ }
@@ -67,7 +73,7 @@ impl<'a> Reader<'a> {
         ensures checked { λ _. ⌜ (pass ≡ Checking → now (area .exit) ≡ now (area .entry)) ⌝ }
         ensures read { λ r. ⌜ Agrees (entries-from (length (text-of (now (self .entry)))) (length (now (area .entry))) (outline (now (shape .entry)) .sizes) count (outline (now (shape .entry)) .used) [] (left-of (now (self .entry)))) r (left-of (now (self .exit)))
             (λ _ es. (outline (now (shape .exit)) ≡ entered-all (outline (now (shape .entry))) es)
-                × (now (area .exit) ≡ by-pass pass (now (area .entry)) (laid (now (area .entry)) (outline (now (shape .entry)) .used) (tables (outline (now (shape .entry)) .sizes) es)))) ⌝ }
+            × (now (area .exit) ≡ by-pass pass (now (area .entry)) (laid (now (area .entry)) (outline (now (shape .entry)) .used) (tables (outline (now (shape .entry)) .sizes) es)))) ⌝ }
     {
         for _k in 0..count {
             self.entry(shape, area, pass)?;

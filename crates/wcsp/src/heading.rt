@@ -37,7 +37,11 @@ impl<'a> Reader<'a> {
         ensures read { λ r. ⌜ answered r (left-of (now (self .exit))) ≡ number-by (length (text-of (now (self .entry)))) (λ n. kept-or (leb n most) why) (left-of (now (self .entry))) ⌝ }
     {
         let number = self.number()?;
-        if number.value <= most { Ok(number.value) } else { Err(number.breaks(why)) }
+        if number.value <= most {
+            Ok(number.value)
+        } else {
+            Err(number.breaks(why))
+        }
     }
 
     // One to 32 variables.
@@ -46,7 +50,11 @@ impl<'a> Reader<'a> {
         ensures read { λ r. ⌜ answered r (left-of (now (self .exit))) ≡ number-by (length (text-of (now (self .entry)))) variables-rule (left-of (now (self .entry))) ⌝ }
     {
         let number = self.number()?;
-        if number.value >= 1 && number.value <= 32 { Ok(number.value) } else { Err(number.breaks(Refusal::Variables)) }
+        if number.value >= 1 && number.value <= 32 {
+            Ok(number.value)
+        } else {
+            Err(number.breaks(Refusal::Variables))
+        }
     }
 
     // The name, the number of variables, the maximum domain size, the function count and the upper bound.
@@ -59,6 +67,11 @@ impl<'a> Reader<'a> {
         let largest = self.figure()?;
         let functions = self.up_to(64, Refusal::Functions)?;
         let upper = self.figure()?;
-        Ok(Heading { variables, largest, functions, upper })
+        Ok(Heading {
+            variables,
+            largest,
+            functions,
+            upper,
+        })
     }
 }

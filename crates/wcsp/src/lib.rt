@@ -9,5 +9,5 @@ pub mod number;
 pub mod reader;
 mod run;
 mod scopes;
-mod tuples;
 mod tables;
+mod tuples;

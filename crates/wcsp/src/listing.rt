@@ -20,7 +20,13 @@ use problems::sizes::Sizes;
 
 impl<'a> Reader<'a> {
     // One tuple, and its cost into its cell of the function's table.
-    fn listing(&mut self, scope: &Scope, sizes: &Sizes, table: &mut [u32], pass: Pass) -> Result<(), Fault>
+    fn listing(
+        &mut self,
+        scope: &Scope,
+        sizes: &Sizes,
+        table: &mut [u32],
+        pass: Pass,
+    ) -> Result<(), Fault>
         requires { ⌜ length (now table) ≡ cells (sizes-of (now sizes)) (scope-of (now scope)) ⌝ }
         ensures kept { λ _. ⌜ text-of (now (self .exit)) ≡ text-of (now (self .entry)) ⌝ }
         ensures checked { λ _. ⌜ (pass ≡ Checking → now (table .exit) ≡ now (table .entry)) ⌝ }
@@ -35,7 +41,14 @@ impl<'a> Reader<'a> {
     }
 
     // So many tuples.
-    fn listed(&mut self, count: u32, scope: &Scope, sizes: &Sizes, table: &mut [u32], pass: Pass) -> Result<(), Fault>
+    fn listed(
+        &mut self,
+        count: u32,
+        scope: &Scope,
+        sizes: &Sizes,
+        table: &mut [u32],
+        pass: Pass,
+    ) -> Result<(), Fault>
         requires { ⌜ length (now table) ≡ cells (sizes-of (now sizes)) (scope-of (now scope)) ⌝ }
         ensures kept { λ _. ⌜ text-of (now (self .exit)) ≡ text-of (now (self .entry)) ⌝ }
         ensures checked { λ _. ⌜ (pass ≡ Checking → now (table .exit) ≡ now (table .entry)) ⌝ }
@@ -49,7 +62,14 @@ impl<'a> Reader<'a> {
     }
 
     // The whole table of a function: the usual cost, and the listed ones.
-    pub(crate) fn table(&mut self, scope: &Scope, sizes: &Sizes, usual: u32, table: &mut [u32], pass: Pass) -> Result<(), Fault>
+    pub(crate) fn table(
+        &mut self,
+        scope: &Scope,
+        sizes: &Sizes,
+        usual: u32,
+        table: &mut [u32],
+        pass: Pass,
+    ) -> Result<(), Fault>
         requires { ⌜ length (now table) ≡ cells (sizes-of (now sizes)) (scope-of (now scope)) ⌝ }
         ensures kept { λ _. ⌜ text-of (now (self .exit)) ≡ text-of (now (self .entry)) ⌝ }
         ensures checked { λ _. ⌜ (pass ≡ Checking → now (table .exit) ≡ now (table .entry)) ⌝ }

@@ -41,7 +41,10 @@ fn read(text: &[u8], area: &mut [u32], pass: Pass) -> Result<Loaded, Fault>
     let mut shape = Shape::sized(sizes);
     reader.entries(heading.functions, &mut shape, area, pass)?;
     reader.end()?;
-    Ok(Loaded { shape, upper: heading.upper })
+    Ok(Loaded {
+        shape,
+        upper: heading.upper,
+    })
 }
 
 // Loads a text: all of it is checked before anything is written.
@@ -49,10 +52,16 @@ pub fn load(text: &[u8], area: &mut [u32]) -> Result<Loaded, Fault>
     ensures { λ r. ⌜ Outcome (loading (now (text .entry)) (length (now (area .entry)))) r (now (area .entry)) (now (area .exit)) ⌝ }
 {
     if text.len() > MOST_BYTES {
-        return Err(Fault { flaw: Flaw::TextLength, at: 0 });
+        return Err(Fault {
+            flaw: Flaw::TextLength,
+            at: 0,
+        });
     }
     if area.len() < 2 || area.len() > MOST_CELLS {
-        return Err(Fault { flaw: Flaw::Job(Refusal::Area), at: 0 });
+        return Err(Fault {
+            flaw: Flaw::Job(Refusal::Area),
+            at: 0,
+        });
     }
     read(text, area, Pass::Checking)?;
     let loaded = read(text, area, Pass::Writing)?;

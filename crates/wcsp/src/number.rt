@@ -20,7 +20,10 @@ impl Number {
     pub(crate) fn breaks(self, why: Refusal) -> Fault
         ensures { λ r. ⌜ r ≡ record { flaw = Rule why; at = self .at } ⌝ }
     {
-        Fault { flaw: Flaw::Rule(why), at: self.at }
+        Fault {
+            flaw: Flaw::Rule(why),
+            at: self.at,
+        }
     }
 }
 

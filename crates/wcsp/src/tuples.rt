@@ -25,7 +25,11 @@ impl<'a> Reader<'a> {
         ensures read { λ r. ⌜ answered r (left-of (now (self .exit))) ≡ number-by (length (text-of (now (self .entry)))) (value-rule size) (left-of (now (self .entry))) ⌝ }
     {
         let number = self.number()?;
-        if number.value < size as u32 { Ok(number.value as u8) } else { Err(number.breaks(Refusal::Tuple)) }
+        if number.value < size as u32 {
+            Ok(number.value as u8)
+        } else {
+            Err(number.breaks(Refusal::Tuple))
+        }
     }
 
     // A value for each variable of a scope.
@@ -33,7 +37,7 @@ impl<'a> Reader<'a> {
         ensures kept { λ _. ⌜ text-of (now (self .exit)) ≡ text-of (now (self .entry)) ⌝ }
         ensures read { λ r. ⌜ Agrees (tuple-from (length (text-of (now (self .entry)))) (sizes-of (now (sizes .entry))) (scope-of (now (scope .entry))) [] (left-of (now (self .entry)))) r (left-of (now (self .exit)))
             (λ s tuple. (fits (sizes-of (now (sizes .entry))) (scope-of (now (scope .entry))) tuple ≡ true)
-                × ((v : ℕ) → of (values-of s) v ≡ along (scope-of (now (scope .entry))) tuple v)) ⌝ }
+            × ((v : ℕ) → of (values-of s) v ≡ along (scope-of (now (scope .entry))) tuple v)) ⌝ }
     {
         let variables = scope.variables();
         let mut setting = Setting::empty();

@@ -1,10 +1,9 @@
 use mathlib.Core.Path.{_≡_, refl, sym, ap, _∙_}
-use mathlib.Core.Bool.{cond, _&&_}
+use mathlib.Core.Bool.{_&&_}
 use Prim.Native.Nat.{_≤_}
 use native.Mathlib.Omega.{arith}
 use lib.Dec.{leb}
 use lib.ListN.{length, take, drop}
-use Rattle.std.specs.declared.result.Result.the-variants.{Ok}
 use Rattle.std.proofs.shelf.Tests.{cond-true, le-leb, and-from}
 use Rattle.problems.specs.Outlines.{Outline, outline, problem}
 use Rattle.wcsp.specs.Words.{words}
@@ -27,8 +26,7 @@ returns c =
     let shape = got .2 .1 in
     let used = ap (λ (o : Outline). o .used) shape in
     let short = le-leb (length text) 65535 (omega arith) in
-    let right = and-from (leb 2 (length area)) (leb (length area) 16384) (le-leb 2 (length area) (omega arith)) (le-leb (length area) 16384 (omega arith)) in
-    (
+    let right = and-from (leb 2 (length area)) (leb (length area) 16384) (le-leb 2 (length area) (omega arith)) (le-leb (length area) 16384 (omega arith)) in (
       d,
       cond-true (leb (length text) 65535) _ _ short ∙ cond-true (leb 2 (length area) && leb (length area) 16384) _ _ right ∙ ap (λ a. document (length text) (length a) (words text)) (sym unchanged) ∙ got .1,
       record {

@@ -1,6 +1,6 @@
-use mathlib.Core.Path.{_≡_, refl, sym, ap, _∙_}
+use mathlib.Core.Path.{ap, _∙_}
 use lib.ListN.{length}
-use Rattle.problems.specs.Outlines.{Outline, outline, opened}
+use Rattle.problems.specs.Outlines.{Outline, outline}
 use Rattle.problems.specs.Records.{sizes-of}
 use Rattle.wcsp.specs.Passes.{by-pass}
 use Rattle.wcsp.specs.Tables.{laid}
@@ -27,11 +27,11 @@ returns c =
       read = (
         _,
         read-document (c .args .text .now) (length area) s s₁ s₂ s₃ (c .in-Continue-heading .heading) sizes o (outline (c .entries .last .shape)) (c .new-reader .ensures .whole) (c .new-reader .ensures .start) (c .heading .ensures .kept) (c .sizes .ensures .kept)
-          (h .0) (h .1) (h .2) z opens (e .0) (e .1) (c .in-Continue-end .ensures tt),
+            (h .0) (h .1) (h .2) z opens (e .0) (e .1) (c .in-Continue-end .ensures tt),
         (
           h .2 .upper,
           e .2 .0 ∙ ap (λ o. entered-all o (e .0)) opens,
           e .2 .1 ∙ ap (λ (o : Outline). by-pass pass area (laid area (o .used) (tables (o .sizes) (e .0)))) opens,
         ),
-      )
+      );
     }

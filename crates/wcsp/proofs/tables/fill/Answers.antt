@@ -1,8 +1,7 @@
 use mathlib.Core.Path.{_≡_, sym, ap, _∙_}
 use mathlib.Core.List.{[], _∷_, _++_}
-use Prim.Native.Nat.{_≤_}
 use native.Mathlib.Omega.{arith}
-use lib.ListN.{length, take, replicate}
+use lib.ListN.{length, replicate}
 use Rattle.std.proofs.shelf.Lists.{take-more-set, replicate-more, take-all}
 use Rattle.wcsp.proofs.tables.fill.Needs as need
 

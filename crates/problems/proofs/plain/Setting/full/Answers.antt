@@ -11,7 +11,7 @@ use Rattle.problems.proofs.Slots.{copied, same-slots}
 use Rattle.problems.proofs.plain.Setting.full.Needs as need
 
 pub returns-then-value-sizes : need.returns-then-value-sizes
-returns-then-value-sizes c = λ full. let v = c .loop-v .v in omega (arith, full .1 v (omega arith), size-slot (c .args .sizes .now) v)
+returns-then-value-sizes c = let v = c .loop-v .v in (c .loop-v .inv .1, omega arith, omega (arith, size-slot (c .args .sizes .now) v), c .loop-v .inv .2)
 
 pub loop-v-holds : need.loop-v-holds
 loop-v-holds c = (refl, omega arith, λ v h. absurd (omega arith), λ v. same-slots {X = ℕ} 32 v 0)

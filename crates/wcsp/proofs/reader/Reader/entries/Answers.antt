@@ -1,6 +1,6 @@
-use mathlib.Core.Path.{_≡_, refl, sym, ap, _∙_}
-use mathlib.Core.List.{List, [], _∷_, _++_}
-use Prim.Native.Nat.{ℕ, _-_, _+_}
+use mathlib.Core.Path.{refl, sym, ap, _∙_}
+use mathlib.Core.List.{[], _∷_, _++_}
+use Prim.Native.Nat.{_-_, _+_}
 use native.Mathlib.Nat.{sub-zero}
 use native.Mathlib.Omega.{arith}
 use lib.ListN.{length}
@@ -8,7 +8,7 @@ use Rattle.std.proofs.shelf.Lists.{length-push}
 use Rattle.std.proofs.shelf.Results.{err-from-errBy}
 use Rattle.problems.specs.Outlines.{Outline, outline}
 use Rattle.wcsp.specs.Readers.{text-of, left-of}
-use Rattle.wcsp.specs.Layouts.{Entry, entries-from}
+use Rattle.wcsp.specs.Layouts.{entries-from}
 use Rattle.wcsp.specs.Passes.{by-pass}
 use Rattle.wcsp.specs.Tables.{table-of, laid}
 use Rattle.wcsp.specs.Described.{tables}
@@ -19,8 +19,7 @@ use Rattle.wcsp.proofs.reader.Reader.entries.Needs as need
 pub loop-k-holds : need.loop-k-holds
 loop-k-holds c =
     let o = outline (c .args .shape .now) in
-    let area = c .args .area .now in
-    (
+    let area = c .args .area .now in (
       refl,
       (
         [],
@@ -44,11 +43,11 @@ returns-in-Break-entry c =
     let l = c .loop-k in
     let area = c .args .area .now in
     let broken = entries-fault (text-of (l .self)) (text-of (c .args .self .now)) (l .area) area (outline (l .shape)) (outline (c .args .shape .now)) (l .inv .1 .0) (c .args .count) (l .-k) (left-of (l .self))
-        (l .inv .0) (l .kept .area) (l .inv .1 .2) (omega arith) (c .in-Break-entry .field-0 .0) (c .in-Break-entry .ensures tt .read) in
+    (l .inv .0) (l .kept .area) (l .inv .1 .2) (omega arith) (c .in-Break-entry .field-0 .0) (c .in-Break-entry .ensures tt .read) in
     record {
       kept = c .in-Break-entry .ensures tt .kept ∙ l .inv .0;
       checked = λ e. c .in-Break-entry .ensures tt .checked e ∙ pass-checked (c .args .pass) area (l .area) _ (l .inv .1 .4) e;
-      read = rw (p .1, p .2) (sym (l .inv .1 .1) ∙ broken)
+      read = rw (p .1, p .2) (sym (l .inv .1 .1) ∙ broken);
     }
 
 pub loop-k-again : need.loop-k-again
@@ -65,8 +64,7 @@ loop-k-again c =
     let count = c .args .count in
     let got = c .in-Continue-entry .ensures tt .read in
     let more = entries-more text text₀ (l .area) area o o₀ done count (l .-k) words (l .inv .0) (l .kept .area) (l .inv .1 .2) (omega arith) o′ (got .0) (left-of (c .entry .last .self)) (got .1) (got .2 .0) in
-    let behind = laid-behind text text₀ (l .area) area o o₀ done count (l .-k) words (l .inv .0) (l .kept .area) (l .inv .1 .2) (omega arith) (got .0) (c .pre .used) in
-    (
+    let behind = laid-behind text text₀ (l .area) area o o₀ done count (l .-k) words (l .inv .0) (l .kept .area) (l .inv .1 .2) (omega arith) (got .0) (c .pre .used) in (
       c .in-Continue-entry .ensures tt .kept ∙ l .inv .0,
       (
         done ++ got .0 ∷ [],

@@ -16,7 +16,7 @@ Inv-loop-k l =
     (text-of (l .self) ≡ text-of (l .entry .self)) ×
     ((done : List Entry) ×
     (entries-from (length (text-of (l .entry .self))) (length (l .entry .area)) (outline (l .entry .shape) .sizes) (l .count - l .-k) (outline (l .shape) .used) done (left-of (l .self))
-        ≡ entries-from (length (text-of (l .entry .self))) (length (l .entry .area)) (outline (l .entry .shape) .sizes) (l .count) (outline (l .entry .shape) .used) [] (left-of (l .entry .self))) ×
+    ≡ entries-from (length (text-of (l .entry .self))) (length (l .entry .area)) (outline (l .entry .shape) .sizes) (l .count) (outline (l .entry .shape) .used) [] (left-of (l .entry .self))) ×
     (outline (l .shape) ≡ entered-all (outline (l .entry .shape)) done) ×
     (length done ≡ l .-k) ×
     (l .area ≡ by-pass (l .pass) (l .entry .area) (laid (l .entry .area) (outline (l .entry .shape) .used) (tables (outline (l .entry .shape) .sizes) done))))

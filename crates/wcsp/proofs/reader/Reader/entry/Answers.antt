@@ -1,4 +1,4 @@
-use mathlib.Core.Path.{_≡_, refl, sym, ap, _∙_}
+use mathlib.Core.Path.{ap, _∙_}
 use Prim.Native.Nat.{_-_}
 use Rattle.std.proofs.shelf.Results.{err-from-errBy}
 use borrow.Rule.Slice.PartMut.{putMid}
@@ -18,12 +18,12 @@ returns-in-Break-table c =
     let end = c .used-end .result in
     let area = c .args .area .now in
     let broken = entry-fault (text-of s) (text-of s₁) (text-of s₂) area (outline (c .args .shape .now)) (outline (c .usual .last .shape)) (sizes-of (c .sizes-sizes .result)) (scope-of (c .in-Continue-scope .scope)) (c .in-Continue-usual .usual) start end
-        (left-of s) (left-of s₁) (left-of s₂) (left-of (c .table .last .self)) (c .scoped .ensures .kept) (c .usual .ensures .kept) (ap sizes-of (c .sizes-sizes .ensures)) (c .used-start .ensures) (c .used-end .ensures)
-        (c .in-Continue-scope .ensures tt .read) (c .in-Continue-usual .ensures tt .read) (c .in-Break-table .field-0 .0) (c .in-Break-table .ensures tt .read) in
+    (left-of s) (left-of s₁) (left-of s₂) (left-of (c .table .last .self)) (c .scoped .ensures .kept) (c .usual .ensures .kept) (ap sizes-of (c .sizes-sizes .ensures)) (c .used-start .ensures) (c .used-end .ensures)
+    (c .in-Continue-scope .ensures tt .read) (c .in-Continue-usual .ensures tt .read) (c .in-Break-table .field-0 .0) (c .in-Break-table .ensures tt .read) in
     record {
       kept = c .table .ensures .kept ∙ c .usual .ensures .kept ∙ c .scoped .ensures .kept;
       checked = λ e. ap (putMid start (end - start) area) (c .table .ensures .checked e) ∙ part-same area start (end - start);
-      read = rw (p .1, p .2) broken
+      read = rw (p .1, p .2) broken;
     }
 
 pub returns : need.returns
@@ -54,5 +54,5 @@ returns c =
           b .2 .1,
           entry-laid (text-of s) (text-of s₁) (text-of s₂) area o o′ sizes scope usual start end (left-of s) (left-of s₁) (left-of s₂) (left-of s₃) (c .scoped .ensures .kept) (c .usual .ensures .kept) same (c .used-start .ensures) (c .used-end .ensures) a b (c .args .pass) (c .table .last .table) (got .0) (got .2),
         ),
-      )
+      );
     }

@@ -31,5 +31,5 @@ returns c =
         _,
         heading-read s s₁ s₂ s₃ s₄ s₅ name v l f u k₁ k₂ k₃ k₄ e₁ e₂ e₃ e₄ e₅,
         heads s s₁ s₂ s₃ s₄ s₅ name v l f u k₁ k₂ k₃ k₄ e₁ e₂ e₃ e₄ e₅,
-      )
+      );
     }

@@ -1,4 +1,4 @@
-use mathlib.Core.Path.{_≡_, refl, sym, ap, _∙_}
+use mathlib.Core.Path.{refl, sym, ap, _∙_}
 use mathlib.Core.List.{List, [], _∷_, _++_}
 use Prim.Native.Nat.{ℕ, _-_, _+_}
 use native.Mathlib.Omega.{arith}
@@ -31,7 +31,7 @@ returns-in-Break-listing c =
     record {
       kept = c .in-Break-listing .ensures tt .kept ∙ l .inv .0;
       checked = λ e. c .in-Break-listing .ensures tt .checked e ∙ pass-checked (c .args .pass) (c .args .table .now) (l .table) _ (l .inv .1 .2) e;
-      read = rw (p .1, p .2) (sym (l .inv .1 .1) ∙ broken)
+      read = rw (p .1, p .2) (sym (l .inv .1 .1) ∙ broken);
     }
 
 pub loop-k-again : need.loop-k-again
@@ -46,8 +46,7 @@ loop-k-again c =
     let got = c .in-Continue-listing .ensures tt .read in
     let left = left-of (c .listing .last .self) in
     let read = ap (λ t. one t sizes scope [] words) (sym (l .inv .0)) ∙ got .1 in
-    let more = one-more (listed-from (length text) sizes scope) (one text sizes scope) (λ _ _ _. refl) (c .args .count) (l .-k) done words (got .0) left (omega arith) read in
-    (
+    let more = one-more (listed-from (length text) sizes scope) (one text sizes scope) (λ _ _ _. refl) (c .args .count) (l .-k) done words (got .0) left (omega arith) read in (
       c .in-Continue-listing .ensures tt .kept ∙ l .inv .0,
       (
         done ++ got .0 ∷ [],

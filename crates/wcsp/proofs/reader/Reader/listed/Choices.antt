@@ -15,5 +15,5 @@ Inv-loop-k l =
     (text-of (l .self) ≡ text-of (l .entry .self)) ×
     ((done : List Listed) ×
     (listed-from (length (text-of (l .entry .self))) (sizes-of (l .sizes)) (scope-of (l .scope)) (l .count - l .-k) done (left-of (l .self))
-        ≡ listed-from (length (text-of (l .entry .self))) (sizes-of (l .sizes)) (scope-of (l .scope)) (l .count) [] (left-of (l .entry .self))) ×
+    ≡ listed-from (length (text-of (l .entry .self))) (sizes-of (l .sizes)) (scope-of (l .scope)) (l .count) [] (left-of (l .entry .self))) ×
     (l .table ≡ by-pass (l .pass) (l .entry .table) (amended (sizes-of (l .sizes)) (scope-of (l .scope)) (l .entry .table) done)))

@@ -1,6 +1,6 @@
-use mathlib.Core.Path.{_≡_, refl, sym, ap, _∙_}
+use mathlib.Core.Path.{ap, _∙_}
 use native.Mathlib.Omega.{arith}
-use lib.ListN.{length, set}
+use lib.ListN.{set}
 use Rattle.problems.specs.Records.{sizes-of, scope-of, values-of}
 use Rattle.wcsp.specs.Readers.{text-of, left-of}
 use Rattle.wcsp.specs.Passes.{by-pass}
@@ -31,5 +31,5 @@ returns c =
         _,
         listing-read (text-of (c .args .self .now)) (text-of (c .tuple .last .self)) sizes scope (read .0) cost (left-of (c .args .self .now)) (left-of (c .tuple .last .self)) (left-of (c .figure .last .self)) (c .tuple .ensures .kept) (read .1) (c .in-Continue-cost .ensures tt .read),
         c .put .ensures ∙ ap (λ k. by-pass (c .args .pass) table (set table k cost)) cell,
-      )
+      );
     }

@@ -1,5 +1,5 @@
-use mathlib.Core.Path.{_≡_, refl, sym, ap, _∙_}
-use mathlib.Core.List.{List, [], _∷_, _++_}
+use mathlib.Core.Path.{refl, sym, ap, _∙_}
+use mathlib.Core.List.{List}
 use Prim.Native.Nat.{ℕ, _-_, _+_, _<_}
 use native.Mathlib.Omega.{arith}
 use lib.ListN.{length}
@@ -41,8 +41,7 @@ loop-k-again c =
     let read = ap (λ t. one t n scope (left-of (l .self))) (sym (l .inv .0)) ∙ got .1 in
     let more = one-more (scope-from (length text) n) (one text n) (λ _ _ _. refl) (c .args .arity) (l .-k) scope (left-of (l .self)) (got .0) left (omega arith) read in
     let few : length scope < 5 = omega arith in
-    let rule = rule-kept (length text) (variable-rule n scope) (left-of (l .self)) (got .0) left read in
-    (
+    let rule = rule-kept (length text) (variable-rule n scope) (left-of (l .self)) (got .0) left read in (
       c .in-Continue-variable .ensures tt .kept ∙ l .inv .0,
       ap length (got .2) ∙ length-push scope (got .0) ∙ ap (λ k. k + 1) (l .inv .1),
       ap (λ done. scope-from (length text) n (c .args .arity - (l .-k + 1)) done left) (got .2) ∙ sym more ∙ l .inv .2,

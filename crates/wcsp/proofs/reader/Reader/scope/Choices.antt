@@ -15,5 +15,5 @@ Inv-loop-k l =
     (text-of (l .self) ≡ text-of (l .entry .self)) ×
     (length (scope-of (l .scope)) ≡ l .-k) ×
     (scope-from (length (text-of (l .entry .self))) (length (sizes-of (l .sizes))) (l .arity - l .-k) (scope-of (l .scope)) (left-of (l .self))
-        ≡ scope-from (length (text-of (l .entry .self))) (length (sizes-of (l .sizes))) (l .arity) [] (left-of (l .entry .self))) ×
+    ≡ scope-from (length (text-of (l .entry .self))) (length (sizes-of (l .sizes))) (l .arity) [] (left-of (l .entry .self))) ×
     (proper (length (sizes-of (l .sizes))) (scope-of (l .scope)) ≡ true)

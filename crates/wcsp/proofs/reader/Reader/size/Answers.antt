@@ -1,4 +1,4 @@
-use mathlib.Core.Path.{_≡_, sym, ap, _∙_}
+use mathlib.Core.Path.{sym, ap, _∙_}
 use lib.ListN.{length}
 use Rattle.std.specs.declared.result.Result.the-variants.{Err}
 use Rattle.problems.specs.Records.{sizes-of}
@@ -16,5 +16,5 @@ returns-in-Err c =
     let refused = size-refused (sizes-of (c .args .sizes .now)) (n .value) (c .args .largest) why (c .pre) (c .in-Err .ensures tt .0) in
     record {
       kept = c .number .ensures .kept;
-      read = rule-broken (length (text-of s)) (size-rule (c .args .largest)) (left-of s) n (left-of (c .number .last .self)) (Rule why) (c .in-Continue-number .ensures tt .read) refused ∙ ap Err (sym (c .breaks-in-Err .ensures))
+      read = rule-broken (length (text-of s)) (size-rule (c .args .largest)) (left-of s) n (left-of (c .number .last .self)) (Rule why) (c .in-Continue-number .ensures tt .read) refused ∙ ap Err (sym (c .breaks-in-Err .ensures));
     }

@@ -1,5 +1,5 @@
-use mathlib.Core.Path.{_≡_, refl, sym, ap, _∙_}
-use mathlib.Core.List.{List, [], _∷_, _++_}
+use mathlib.Core.Path.{refl, sym, ap, _∙_}
+use mathlib.Core.List.{List, []}
 use Prim.Native.Nat.{ℕ, _-_, _+_}
 use native.Mathlib.Omega.{arith}
 use lib.ListN.{length}
@@ -34,8 +34,7 @@ loop-v-again c =
     let max = c .args .largest in
     let got = c .in-Continue-size .ensures tt .read in
     let read = ap (λ t. one t max [] (left-of (l .self))) (sym (l .inv .0)) ∙ got .1 in
-    let more = one-more (sizes-from (length text) max) (one text max) (λ _ _ _. refl) (c .args .count) (l .-v) (sizes-of (l .sizes)) (left-of (l .self)) (got .0) (left-of (c .size .last .self)) (omega arith) read in
-    (
+    let more = one-more (sizes-from (length text) max) (one text max) (λ _ _ _. refl) (c .args .count) (l .-v) (sizes-of (l .sizes)) (left-of (l .self)) (got .0) (left-of (c .size .last .self)) (omega arith) read in (
       c .in-Continue-size .ensures tt .kept ∙ l .inv .0,
       ap length (got .2) ∙ length-push (sizes-of (l .sizes)) (got .0) ∙ ap (λ n. n + 1) (l .inv .1),
       ap (λ done. sizes-from (length text) max (c .args .count - (l .-v + 1)) done (left-of (c .size .last .self))) (got .2) ∙ sym more ∙ l .inv .2,

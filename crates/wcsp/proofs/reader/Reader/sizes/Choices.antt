@@ -13,4 +13,4 @@ Inv-loop-v l =
     (text-of (l .self) ≡ text-of (l .entry .self)) ×
     (length (sizes-of (l .sizes)) ≡ l .-v) ×
     (sizes-from (length (text-of (l .entry .self))) (l .largest) (l .count - l .-v) (sizes-of (l .sizes)) (left-of (l .self))
-        ≡ sizes-from (length (text-of (l .entry .self))) (l .largest) (l .count) [] (left-of (l .entry .self)))
+    ≡ sizes-from (length (text-of (l .entry .self))) (l .largest) (l .count) [] (left-of (l .entry .self)))

@@ -1,8 +1,8 @@
-use mathlib.Core.Path.{_≡_, refl, sym, ap, _∙_}
+use mathlib.Core.Path.{sym, ap, _∙_}
 use mathlib.Core.List.{List, [], _∷_, _++_}
 use Prim.Native.Nat.{ℕ, _+_, _<_, _≤_}
 use native.Mathlib.Omega.{arith}
-use lib.ListN.{length, getD, set, take}
+use lib.ListN.{length, getD, set}
 use Rattle.std.proofs.shelf.Lists.{take-all}
 use Rattle.std.proofs.shelf.Results.{err-from-errBy}
 use Rattle.problems.specs.Records.{sizes-of, scope-of, values-of}
@@ -50,8 +50,7 @@ loop-v-again c =
     let read = ap (λ t. one t (getD sizes (getD vs i 0) 0) words) (sym (l .inv .0)) ∙ ap (λ z. one (text-of (l .self)) z words) (sym size) ∙ sym (c .in-Continue-value .ensures tt .read) in
     let good = value-below (length text) sizes vs i done words here x left read in
     let slot = variable-slot (c .args .scope .now) _ (c .variables-variables .ensures) i (c .loop-v-test .taken) in
-    let room : getD vs i 0 < length (values-of (l .setting)) = omega arith in
-    (
+    let room : getD vs i 0 < length (values-of (l .setting)) = omega arith in (
       c .in-Continue-value .ensures tt .kept ∙ l .inv .0,
       (
         done ++ x ∷ [],
@@ -76,5 +75,5 @@ returns c =
         done,
         sym (l .inv .1 .1) ∙ value-end (length text) sizes vs (l .v-index) done (left-of (l .self)) end,
         (rw (take-all (l .v-index) vs end) at (l .inv .1 .2), λ v. rw (take-all (l .v-index) vs end) at (l .inv .1 .3 v)),
-      )
+      );
     }

@@ -16,6 +16,6 @@ Inv-loop-v l =
     (text-of (l .self) ≡ text-of (l .entry .self)) ×
     ((done : List ℕ) ×
     (tuple-from (length (text-of (l .entry .self))) (sizes-of (l .sizes)) (drop (l .v-index) (scope-of (l .scope))) done (left-of (l .self))
-        ≡ tuple-from (length (text-of (l .entry .self))) (sizes-of (l .sizes)) (scope-of (l .scope)) [] (left-of (l .entry .self))) ×
+    ≡ tuple-from (length (text-of (l .entry .self))) (sizes-of (l .sizes)) (scope-of (l .scope)) [] (left-of (l .entry .self))) ×
     (fits (sizes-of (l .sizes)) (take (l .v-index) (scope-of (l .scope))) done ≡ true) ×
     ((v : ℕ) → of (values-of (l .setting)) v ≡ along (take (l .v-index) (scope-of (l .scope))) done v))

@@ -1,4 +1,4 @@
-use mathlib.Core.Path.{_≡_, refl, sym, ap, _∙_}
+use mathlib.Core.Path.{refl, sym, ap, _∙_}
 use Prim.Native.Nat.{min}
 use lib.ListN.{length}
 use Rattle.problems.specs.Outlines.{outline, entered}
@@ -28,5 +28,5 @@ returns-in-Ok c =
         n .value,
         rule-taken (length (text-of s)) (room-rule room (o .used) (cells (o .sizes) scope)) (left-of s) n (left-of (c .number .last .self)) (c .in-Continue-number .ensures tt .read) taken,
         (refl, got .1 .1 ∙ ap (entered o) (c .variables .ensures)),
-      )
+      );
     }

@@ -1,4 +1,4 @@
-use mathlib.Core.Path.{_≡_, sym, ap, _∙_}
+use mathlib.Core.Path.{sym, ap, _∙_}
 use Prim.Native.Nat.{_≤_}
 use native.Mathlib.Omega.{arith}
 use lib.ListN.{length}
@@ -21,5 +21,5 @@ returns-then-number-gt255 c =
     let past : length (sizes-of sizes) ≤ n .value = omega (arith, length-take (sizes .len) (sizes .sizes)) in
     record {
       kept = c .number .ensures .kept;
-      read = rule-broken (length (text-of s)) (variable-rule (length (sizes-of sizes)) scope) (left-of s) n (left-of (c .number .last .self)) (Rule Scope) (c .in-Continue-number .ensures tt .read) (no-variable (length (sizes-of sizes)) scope (n .value) past) ∙ ap Err (sym (c .breaks .ensures))
+      read = rule-broken (length (text-of s)) (variable-rule (length (sizes-of sizes)) scope) (left-of s) n (left-of (c .number .last .self)) (Rule Scope) (c .in-Continue-number .ensures tt .read) (no-variable (length (sizes-of sizes)) scope (n .value) past) ∙ ap Err (sym (c .breaks .ensures));
     }
