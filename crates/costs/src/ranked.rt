@@ -12,7 +12,10 @@ impl Pair {
         ensures { λ r. ⌜ r ≡ ranked-of first second ⌝ }
     {
         if first == FULL {
-            Pair { first, second: FULL }
+            Pair {
+                first,
+                second: FULL,
+            }
         } else {
             Pair { first, second }
         }
@@ -30,14 +33,23 @@ pub impl Cost for Pair as Ranked {
     ghost structure = { ranked };
 
     fn neutral() -> Pair {
-        Pair { first: 0, second: 0 }
+        Pair {
+            first: 0,
+            second: 0,
+        }
     }
 
     fn combine(self, other: Pair) -> Pair {
-        Pair::ranked(self.first.saturating_add(other.first), self.second.saturating_add(other.second))
+        Pair::ranked(
+            self.first.saturating_add(other.first),
+            self.second.saturating_add(other.second),
+        )
     }
 
     fn is_at_most(self, other: Pair) -> bool {
-        comes_first(Pair::ranked(self.first, self.second), Pair::ranked(other.first, other.second))
+        comes_first(
+            Pair::ranked(self.first, self.second),
+            Pair::ranked(other.first, other.second),
+        )
     }
 }

@@ -40,8 +40,8 @@ module _ {C S : Type 0} (b a : Job C S) (area part : List C) (scope : List ℕ) 
       let there : putMid start (end - start) area part ≡ take start area ++ (replicate n cost ++ drop end area) = filled-part area cost part start end n (omega arith) (omega arith) filled in
       let cells-are = there ∙ ap₂ (λ s e. take s area ++ (replicate n cost ++ drop e area)) begins ends in
       let there-is : standing a ≡ record { stage = Draft; outline = entered o scope; noted = standing b .noted } =
-        ap (λ (s : Stage). record { stage = s; outline = standing a .outline; noted = standing a .noted }) staged
-        ∙ ap₂ (λ (x : Outline) (k : ℕ). record { stage = Draft; outline = x; noted = k }) shaped noted in
+      ap (λ (s : Stage). record { stage = s; outline = standing a .outline; noted = standing a .noted }) staged
+      ∙ ap₂ (λ (x : Outline) (k : ℕ). record { stage = Draft; outline = x; noted = k }) shaped noted in
       record {
         number-is = numbered;
         stands = record { standing-is = there-is; source-is = source };

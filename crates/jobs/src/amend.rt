@@ -11,7 +11,13 @@ use problems::refusal::Refusal;
 
 impl<C: Cost, S> Job<C, S> {
     // Writes the cost into the cell of the function's tuple.
-    pub fn amend(&mut self, function: usize, tuple: &[u8], cost: C, area: &mut [C]) -> Result<(), Refusal>
+    pub fn amend(
+        &mut self,
+        function: usize,
+        tuple: &[u8],
+        cost: C,
+        area: &mut [C],
+    ) -> Result<(), Refusal>
         ensures { λ r. ⌜ Answers (first-of (amend-rows (standing (now (self .entry))) function (now (tuple .entry)) (length (now (area .entry))))) r
             (λ _. Amended (now (self .entry)) (now (self .exit)) (now (area .entry)) (now (area .exit)) function (now (tuple .entry)) cost)
             ((now (self .exit) ≡ now (self .entry)) × (now (area .exit) ≡ now (area .entry))) ⌝ }

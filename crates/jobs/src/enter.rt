@@ -46,7 +46,11 @@ impl<C: Cost, S> Job<C, S> {
         let start = plain.shape.used();
         let end = shape.used();
         fill(&mut area[start..end], cost);
-        self.plain = Plain { stage: plain.stage, shape, noted: plain.noted };
+        self.plain = Plain {
+            stage: plain.stage,
+            shape,
+            noted: plain.noted,
+        };
         Ok(number)
     }
 }

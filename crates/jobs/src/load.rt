@@ -18,7 +18,11 @@ impl<S> Job<u32, S> {
     {
         self.plain.stage.takes(Call::Load)?;
         let loaded = load(text, area)?;
-        self.plain = Plain { stage: Stage::Draft, shape: loaded.shape, noted: area.len() };
+        self.plain = Plain {
+            stage: Stage::Draft,
+            shape: loaded.shape,
+            noted: area.len(),
+        };
         Ok(loaded.upper)
     }
 }

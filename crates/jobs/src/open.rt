@@ -19,7 +19,11 @@ impl Plain {
     pub(crate) fn closed() -> Plain
         ensures { λ r. ⌜ standing-of r ≡ closed ⌝ }
     {
-        Plain { stage: Stage::Closed, shape: Shape::none(), noted: 0 }
+        Plain {
+            stage: Stage::Closed,
+            shape: Shape::none(),
+            noted: 0,
+        }
     }
 }
 
@@ -28,7 +32,11 @@ impl<C: Cost, S> Job<C, S> {
     pub fn new(source: S) -> Job<C, S>
         ensures { λ r. ⌜ Stands r closed source ⌝ }
     {
-        Job { plain: Plain::closed(), source, costs: PhantomData }
+        Job {
+            plain: Plain::closed(),
+            source,
+            costs: PhantomData,
+        }
     }
 
     // Takes the variables' domain sizes, and notes the area's length.
@@ -37,13 +45,18 @@ impl<C: Cost, S> Job<C, S> {
             (λ _. Opened (now (self .entry)) (now (self .exit)) (now (sizes .entry)) (length (now (area .entry))))
             (now (self .exit) ≡ now (self .entry)) ⌝ }
     {
-        self.plain.stage.takes(Call::Open)?;
+        let stage = self.plain.stage;
+        stage.takes(Call::Open)?;
         let shape = Shape::of(sizes)?;
         let noted = area.len();
         if noted < 2 || noted > MOST_CELLS {
             return Err(Refusal::Area);
         }
-        self.plain = Plain { stage: Stage::Draft, shape, noted };
+        self.plain = Plain {
+            stage: Stage::Draft,
+            shape,
+            noted,
+        };
         Ok(())
     }
 

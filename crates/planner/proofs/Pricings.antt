@@ -61,9 +61,9 @@ module _ (d : Document) (o : Outline) (area s : List ℕ) (same : o ≡ outlined
       let used = ap (λ (x : Outline). x .used) same in
       let cost-is : c ≡ cost sum (described d) s = priced s full given ∙ ap (λ (p : Problem ℕ). cost sum p s) there in
       let lines : record-lines (o .sizes) area (of values) 0 (o .functions) ≡ function-lines (d .sizes) s 0 (described d .functions) =
-        ap (λ (a : Assignment). record-lines (o .sizes) area a 0 (o .functions)) (fun-ext given)
-        ∙ lines-there (o .sizes) area s full 0 (o .functions) apart
-        ∙ ap₂ (λ (sizes : List ℕ) (fs : List (Function ℕ)). function-lines sizes s 0 fs) sizes-are (ap (λ (p : Problem ℕ). p .functions) there) in
+      ap (λ (a : Assignment). record-lines (o .sizes) area a 0 (o .functions)) (fun-ext given)
+      ∙ lines-there (o .sizes) area s full 0 (o .functions) apart
+      ∙ ap₂ (λ (sizes : List ℕ) (fs : List (Function ℕ)). function-lines sizes s 0 fs) sizes-are (ap (λ (p : Problem ℕ). p .functions) there) in
       let sizes = ap length sizes-are in
       let head : job-line title (length (o .sizes)) (length (o .functions)) (o .used) (length area) ≡ job-line (d .name) (length (d .sizes)) (length (d .entries)) (outlined d .used) (length area) = cc in
       let tail : verdict-line c upper ≡ verdict-line (cost sum (described d) s) (d .upper) = ap₂ verdict-line cost-is bound in

@@ -25,7 +25,12 @@ fn value_of(heap: Global, k: usize, word: &str) -> Result<u8, Stop>
 {
     match parsed(word.as_bytes()) {
         Some(value) if value < 256 => Ok(value as u8),
-        _ => Err(Stop::Said(format!(heap, "planner: value {k} is `{word}`, and not a number from 0 to 255")?)),
+        _ => Err(Stop::Said(
+            format!(
+                heap,
+                "planner: value {k} is `{word}`, and not a number from 0 to 255"
+            )?,
+        )),
     }
 }
 
@@ -39,7 +44,7 @@ fn values_of(heap: Global, words: Args) -> Result<Vec<u8>, Stop> {
 }
 
 // The command after the program's own name.
-pub fn command_of(heap: Global, mut words: Args) -> Result<Command, Stop> {
+pub(crate) fn command_of(heap: Global, mut words: Args) -> Result<Command, Stop> {
     let _program = words.next();
     let Some(name) = words.next() else {
         return Err(Stop::Said(format!(heap, "planner: no command; {USAGE}")?));

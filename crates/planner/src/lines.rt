@@ -27,7 +27,11 @@ fn text(page: &mut Vec<u8>, words: &str) -> Result<(), AllocError>
 fn listed(page: &mut Vec<u8>, heap: Global, k: usize, n: u8) -> Result<(), AllocError>
     ensures { λ r. ⌜ made r (λ _. vec-items (now (page .exit)) ≡ vec-items (now (page .entry)) ++ parted k n) ⌝ }
 {
-    let words = if k > 0 { format!(heap, " {n}")? } else { format!(heap, "{n}")? };
+    let words = if k > 0 {
+        format!(heap, " {n}")?
+    } else {
+        format!(heap, "{n}")?
+    };
     text(page, words.as_str())?;
     Ok(())
 }
@@ -43,14 +47,23 @@ fn numbers(page: &mut Vec<u8>, heap: Global, list: &[u8]) -> Result<(), AllocErr
 }
 
 // job NAME: N variables, M functions, U of A cells
-pub fn job_line(page: &mut Vec<u8>, heap: Global, name: &[u8], shape: &Shape, cells: usize) -> Result<(), AllocError>
+pub fn job_line(
+    page: &mut Vec<u8>,
+    heap: Global,
+    name: &[u8],
+    shape: &Shape,
+    cells: usize,
+) -> Result<(), AllocError>
     ensures { λ r. ⌜ made r (λ _. vec-items (now (page .exit)) ≡ vec-items (now (page .entry)) ++ job-line (now (name .entry))
         (length (outline (now (shape .entry)) .sizes)) (length (outline (now (shape .entry)) .functions)) (outline (now (shape .entry)) .used) cells) ⌝ }
 {
     let variables = shape.sizes().len();
     let functions = shape.function_count();
     let used = shape.used();
-    let rest = format!(heap, ": {variables} variables, {functions} functions, {used} of {cells} cells\n")?;
+    let rest = format!(
+        heap,
+        ": {variables} variables, {functions} functions, {used} of {cells} cells\n"
+    )?;
     text(page, "job ")?;
     page.extend_from_slice(name)?;
     text(page, rest.as_str())?;
@@ -58,7 +71,13 @@ pub fn job_line(page: &mut Vec<u8>, heap: Global, name: &[u8], shape: &Shape, ce
 }
 
 // function K (V V V): C
-pub fn function_line(page: &mut Vec<u8>, heap: Global, k: usize, scope: &[u8], cost: u32) -> Result<(), AllocError>
+pub fn function_line(
+    page: &mut Vec<u8>,
+    heap: Global,
+    k: usize,
+    scope: &[u8],
+    cost: u32,
+) -> Result<(), AllocError>
     ensures { λ r. ⌜ made r (λ _. vec-items (now (page .exit)) ≡ vec-items (now (page .entry)) ++ function-line k (now (scope .entry)) cost) ⌝ }
 {
     let front = format!(heap, "function {k} (")?;
@@ -73,11 +92,20 @@ pub fn function_line(page: &mut Vec<u8>, heap: Global, k: usize, scope: &[u8], c
 fn side(cost: u32, upper: u32) -> &'static str
     ensures { λ r. ⌜ now r ≡ cond (cheaper sum cost upper) (codes "below") (codes "not below") ⌝ }
 {
-    if cost.is_cheaper(upper) { "below" } else { "not below" }
+    if cost.is_cheaper(upper) {
+        "below"
+    } else {
+        "not below"
+    }
 }
 
 // cost: C, below the upper bound U, or not below it
-pub fn verdict_line(page: &mut Vec<u8>, heap: Global, cost: u32, upper: u32) -> Result<(), AllocError>
+pub fn verdict_line(
+    page: &mut Vec<u8>,
+    heap: Global,
+    cost: u32,
+    upper: u32,
+) -> Result<(), AllocError>
     ensures { λ r. ⌜ made r (λ _. vec-items (now (page .exit)) ≡ vec-items (now (page .entry)) ++ verdict-line cost upper) ⌝ }
 {
     let how = side(cost, upper);

@@ -39,7 +39,9 @@ fn page(rt: &LibcRuntime) -> Result<Vec<u8>, Stop> {
     let heap = rt.alloc();
     let words = match args(rt) {
         Ok(words) => words,
-        Err(e) => return Err(Stop::Said(format!(heap, "planner: the command line cannot be read: {e}")?)),
+        Err(e) => return Err(Stop::Said(
+            format!(heap, "planner: the command line cannot be read: {e}")?,
+        )),
     };
     let Command::Cost { job, values } = command_of(heap, words)?;
     let text = job_text(rt, job.as_str())?;

@@ -57,12 +57,19 @@ pub impl From<Fault> for Failure as FailureFromFault {
     }
 }
 
-// The cell of no floors: a job that is only priced asks no source.
+// No source of floors: a job that is only priced asks none.
 #[derive(Drop)]
 pub struct NoFloors {}
 
 // The line of function k, if there is one.
-fn record_line(page: &mut Vec<u8>, heap: Global, k: usize, shape: &Shape, setting: &Setting, area: &[u32]) -> Result<(), AllocError>
+fn record_line(
+    page: &mut Vec<u8>,
+    heap: Global,
+    k: usize,
+    shape: &Shape,
+    setting: &Setting,
+    area: &[u32],
+) -> Result<(), AllocError>
     ensures { λ r. ⌜ made r (λ _. vec-items (now (page .exit)) ≡ vec-items (now (page .entry))
         ++ record-line (outline (now (shape .entry)) .sizes) (now (area .entry)) (of (values-of (now (setting .entry)))) k (nth (outline (now (shape .entry)) .functions) k)) ⌝ }
 {
@@ -75,7 +82,13 @@ fn record_line(page: &mut Vec<u8>, heap: Global, k: usize, shape: &Shape, settin
 }
 
 // A line for each function.
-fn record_lines(page: &mut Vec<u8>, heap: Global, shape: &Shape, setting: &Setting, area: &[u32]) -> Result<(), AllocError>
+fn record_lines(
+    page: &mut Vec<u8>,
+    heap: Global,
+    shape: &Shape,
+    setting: &Setting,
+    area: &[u32],
+) -> Result<(), AllocError>
     ensures { λ r. ⌜ made r (λ _. vec-items (now (page .exit)) ≡ vec-items (now (page .entry))
         ++ record-lines (outline (now (shape .entry)) .sizes) (now (area .entry)) (of (values-of (now (setting .entry)))) 0 (outline (now (shape .entry)) .functions)) ⌝ }
 {
@@ -107,7 +120,14 @@ fn setting_of(values: &[u8], shape: &Shape) -> Result<Setting, Failure>
 }
 
 // The page of a job, of its functions' costs at a setting, and of the setting's cost.
-fn page_of(heap: Global, name: &[u8], shape: &Shape, setting: &Setting, area: &[u32], upper: u32) -> Result<Vec<u8>, AllocError>
+fn page_of(
+    heap: Global,
+    name: &[u8],
+    shape: &Shape,
+    setting: &Setting,
+    area: &[u32],
+    upper: u32,
+) -> Result<Vec<u8>, AllocError>
     ensures { λ r. ⌜ made r (λ page. (cost : ℕ) × PricedAt (outline (now (shape .entry))) (now (area .entry)) (values-of (now (setting .entry))) cost
         × (vec-items page ≡ record-page (now (name .entry)) (outline (now (shape .entry))) (now (area .entry)) (of (values-of (now (setting .entry)))) cost upper)) ⌝ }
 {

@@ -41,15 +41,21 @@ pub fn refused_line(heap: Global, job: &str, fault: Fault) -> Result<String, All
 }
 
 // Why a job's file gave no page.
-pub fn failure_stop(heap: Global, job: &str, failure: Failure, values: &[u8]) -> Stop {
+pub(crate) fn failure_stop(heap: Global, job: &str, failure: Failure, values: &[u8]) -> Stop {
     let line = match failure {
         Failure::Memory => return Stop::Memory,
         Failure::Refused(fault) => refused_line(heap, job, fault),
         Failure::Values(wanted) => {
             let given = values.len();
-            format!(heap, "{job}: {wanted} values are wanted, one for each variable, and {given} were given")
+            format!(
+                heap,
+                "{job}: {wanted} values are wanted, one for each variable, and {given} were given"
+            )
         }
-        Failure::Value(v) => format!(heap, "{job}: variable {v} has no such value as was given"),
+        Failure::Value(v) => {
+            let value = values.get(v).copied().unwrap_or(0);
+            format!(heap, "{job}: variable {v} has no value {value}")
+        }
     };
     match line {
         Ok(line) => Stop::Said(line),

@@ -60,4 +60,4 @@ module _ (o : Outline) (laid : laid-from (o .sizes) 2 (o .functions) (o .used) �
       → problem (entered o scope) (take (o .used) area ++ (replicate (cells (o .sizes) scope) c ++ drop (o .used + cells (o .sizes) scope) area)) ≡ with-function (problem o area) scope c
   enter-problem area scope c room =
       ap (λ fs. record { sizes = o .sizes; functions = fs; order = o .order })
-        (entered-functions (o .sizes) area 2 (o .used) (o .functions) (record { scope = scope; origin = 33; start = o .used }) c laid refl room)
+      (entered-functions (o .sizes) area 2 (o .used) (o .functions) (record { scope = scope; origin = 33; start = o .used }) c laid refl room)

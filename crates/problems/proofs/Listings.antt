@@ -54,9 +54,9 @@ not-chosen most n vs i h before bad =
     let front = chosen-front most n (take (i + 1) vs) (drop (i + 1) vs) in
     elim (cases-bool (chosen most n vs)) [
       | inl e ↦
-        let there : chosen most n (take (i + 1) vs) ≡ true = front (ap (chosen most n) whole ∙ e) in
-        let here : chosen most n (take i vs ++ getD vs i 0 ∷ []) ≡ true = rw more at there in
-        absurd (both-ways (chosen most n (take i vs ++ getD vs i 0 ∷ [])) (push ∙ ap not bad) here)
+          let there : chosen most n (take (i + 1) vs) ≡ true = front (ap (chosen most n) whole ∙ e) in
+          let here : chosen most n (take i vs ++ getD vs i 0 ∷ []) ≡ true = rw more at there in
+          absurd (both-ways (chosen most n (take i vs ++ getD vs i 0 ∷ [])) (push ∙ ap not bad) here)
       | inr e ↦ e
     ]
 

@@ -20,7 +20,7 @@ each-after P xs i x d here old v = elim (cases-eq v i) [
   | inl e ↦ elim (cases-lt i (length xs)) [
     | inl h ↦ rw (e, getD-set-same xs i x d h) here
     | inr h ↦ rw (set-past xs i x h) (old v)
-    ]
+  ]
   | inr n ↦ rw (getD-set-other xs i v x d n) (old v)
 ]
 
@@ -39,5 +39,5 @@ copied xs slots i h l before v = elim (cases-eq v i) [
   | inr n ↦ getD-set-other slots i v (getD xs i 0) 0 n ∙ before v ∙ elim (cases-lt v i) [
     | inl k ↦ getD-take i xs v 0 k ∙ sym (getD-take (i + 1) xs v 0 (omega arith))
     | inr k ↦ getD-past (take i xs) v 0 (omega (arith, length-take-le i xs (omega arith))) ∙ sym (getD-past (take (i + 1) xs) v 0 (omega (arith, length-take-le (i + 1) xs (omega arith))))
-    ]
+  ]
 ]

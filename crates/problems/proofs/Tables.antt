@@ -72,7 +72,7 @@ module _ (sizes : List ℕ) where
     -- one table more, with one cost in every cell
     pub entered-functions : (area : List C) (from to : ℕ) (fs : List Placed) (f : Placed) (c : C) → laid-from sizes from fs to ≡ true → f .start ≡ to → to + cells sizes (f .scope) ≤ length area
         → map (function-in sizes (take to area ++ (replicate (cells sizes (f .scope)) c ++ drop (to + cells sizes (f .scope)) area))) (fs ++ f ∷ [])
-          ≡ map (function-in sizes area) fs ++ record { scope = f .scope; table = replicate (cells sizes (f .scope)) c } ∷ []
+        ≡ map (function-in sizes area) fs ++ record { scope = f .scope; table = replicate (cells sizes (f .scope)) c } ∷ []
     entered-functions area from to fs f c l e room =
         let n = cells sizes (f .scope) in
         let area′ : List C = take to area ++ (replicate n c ++ drop (to + n) area) in
@@ -96,7 +96,7 @@ module _ (sizes : List ℕ) where
         let size = ap (λ (p : Placed). cells sizes (p .scope)) same in
         let n = cells sizes (f .scope) in
         let table : take n (drop (f .start) (set area (f .start + at) c)) ≡ set (take n (drop (f .start) area)) at c =
-          ap (take n) (drop-set-add (f .start) area at c) ∙ take-set-in n (drop (f .start) area) at c in
+        ap (take n) (drop-set-add (f .start) area at c) ∙ take-set-in n (drop (f .start) area) at c in
         let later = same-above area (set area (f .start + at) c) (from + cells sizes (g .scope)) (λ a h. drop-set-lt a area (f .start + at) c (omega arith)) (from + cells sizes (g .scope)) to fs (both .1) (omega arith) in
         rw same (ap₂ (λ (t : List C) (gs : List (Function C)). record { scope = f .scope; table = t } ∷ gs) table later)
     amended-functions area tuple c from to (g ∷ fs) (suc k) f l e low =

@@ -18,7 +18,11 @@ impl FunctionRecord {
         ensures { λ r. ⌜ r ≡ held (C·Cost .structure) (sizes-of (now (sizes .entry))) (now (area .entry)) (of (values-of (now (setting .entry)))) (placed-of (now (self .entry))) ⌝ }
     {
         let at = self.start + self.scope.cell(sizes, setting);
-        if at < area.len() { area[at] } else { C::neutral() }
+        if at < area.len() {
+            area[at]
+        } else {
+            C::neutral()
+        }
     }
 }
 

@@ -39,7 +39,12 @@ impl Shape {
     pub fn sized(sizes: Sizes) -> Shape
         ensures { λ r. ⌜ outline r ≡ opened (sizes-of sizes) ⌝ }
     {
-        Shape { sizes, order: Order::none(), functions: Functions::none(), used: FIRST_TABLE }
+        Shape {
+            sizes,
+            order: Order::none(),
+            functions: Functions::none(),
+            used: FIRST_TABLE,
+        }
     }
 
     // One function more, its table behind the others in an area of `room` cells; answers its number.
@@ -57,7 +62,12 @@ impl Shape {
         if end > room.min(MOST_CELLS) {
             return Err(Refusal::Room);
         }
-        *self = Shape { sizes: shape.sizes, order: shape.order, functions, used: end };
+        *self = Shape {
+            sizes: shape.sizes,
+            order: shape.order,
+            functions,
+            used: end,
+        };
         Ok(number)
     }
 
@@ -83,7 +93,12 @@ impl Shape {
     {
         let shape = *self;
         let order = Order::of(order, &shape.sizes)?;
-        *self = Shape { sizes: shape.sizes, order, functions: shape.functions, used: shape.used };
+        *self = Shape {
+            sizes: shape.sizes,
+            order,
+            functions: shape.functions,
+            used: shape.used,
+        };
         Ok(())
     }
 

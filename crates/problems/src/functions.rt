@@ -23,7 +23,11 @@ impl FunctionRecord {
         requires { ⌜ start ≤ 16384 ⌝ }
         ensures { λ r. ⌜ placed-of r ≡ record { scope = scope-of scope; origin = 33; start = start } ⌝ }
     {
-        FunctionRecord { scope, origin: ENTERED, start }
+        FunctionRecord {
+            scope,
+            origin: ENTERED,
+            start,
+        }
     }
 
     pub fn scope(&self) -> Scope
@@ -52,7 +56,10 @@ impl Functions {
         ensures { λ r. ⌜ placed r ≡ [] ⌝ }
     {
         let blank = FunctionRecord::entered(Scope::none(), 0);
-        Functions { records: [blank; 64], len: 0 }
+        Functions {
+            records: [blank; 64],
+            len: 0,
+        }
     }
 
     pub(crate) fn len(&self) -> usize
@@ -65,7 +72,11 @@ impl Functions {
     pub(crate) fn get(&self, number: usize) -> Option<FunctionRecord>
         ensures { λ r. ⌜ mapped placed-of r ≡ nth (placed (now (self .entry))) number ⌝ }
     {
-        if number < self.len { Some(self.records[number]) } else { None }
+        if number < self.len {
+            Some(self.records[number])
+        } else {
+            None
+        }
     }
 
     // One function more, under the next number.
@@ -80,7 +91,10 @@ impl Functions {
         }
         let mut records = self.records;
         records[len] = function;
-        *self = Functions { records, len: len + 1 };
+        *self = Functions {
+            records,
+            len: len + 1,
+        };
         Ok(())
     }
 }

@@ -15,7 +15,10 @@ impl Order {
     pub(crate) fn none() -> Order
         ensures { λ r. ⌜ order-of r ≡ [] ⌝ }
     {
-        Order { variables: [0; 32], len: 0 }
+        Order {
+            variables: [0; 32],
+            len: 0,
+        }
     }
 
     // An order names each variable once.
@@ -40,12 +43,18 @@ impl Order {
             (now (self .exit) ≡ now (self .entry)) ⌝ }
     {
         let len = self.len;
-        if len == MOST_VARIABLES || variable as usize >= sizes.len() || lists(self.variables(), variable) {
+        if len == MOST_VARIABLES
+            || variable as usize >= sizes.len()
+            || lists(self.variables(), variable)
+        {
             return Err(Refusal::Order);
         }
         let mut variables = self.variables;
         variables[len] = variable;
-        *self = Order { variables, len: len + 1 };
+        *self = Order {
+            variables,
+            len: len + 1,
+        };
         Ok(())
     }
 

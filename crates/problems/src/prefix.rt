@@ -17,7 +17,10 @@ impl Prefix {
         ensures values { λ r. ⌜ ((v : ℕ) → of (values-of (r .setting)) v ≡ 0) ⌝ }
         ensures len { λ r. ⌜ r .len ≡ 0 ⌝ }
     {
-        Prefix { setting: Setting::empty(), len: 0 }
+        Prefix {
+            setting: Setting::empty(),
+            len: 0,
+        }
     }
 
     // How many variables have a value.
@@ -38,7 +41,10 @@ impl Prefix {
         }
         let mut setting = self.setting;
         setting.give(order.variables[len], value);
-        *self = Prefix { setting, len: len + 1 };
+        *self = Prefix {
+            setting,
+            len: len + 1,
+        };
         true
     }
 
@@ -56,7 +62,10 @@ impl Prefix {
         let mut setting = self.setting;
         let value = setting.value(variable);
         setting.give(variable, 0);
-        *self = Prefix { setting, len: len - 1 };
+        *self = Prefix {
+            setting,
+            len: len - 1,
+        };
         Some(value)
     }
 }

@@ -22,7 +22,10 @@ impl Scope {
     pub fn none() -> Scope
         ensures { λ r. ⌜ scope-of r ≡ [] ⌝ }
     {
-        Scope { len: 0, variables: [0; 5] }
+        Scope {
+            len: 0,
+            variables: [0; 5],
+        }
     }
 
     // A scope of at most five variables, each one known and none repeated.
@@ -44,12 +47,18 @@ impl Scope {
             (now (self .exit) ≡ now (self .entry)) ⌝ }
     {
         let len = self.len;
-        if len as usize == MOST_ARITY || variable as usize >= sizes.len() || lists(self.variables(), variable) {
+        if len as usize == MOST_ARITY
+            || variable as usize >= sizes.len()
+            || lists(self.variables(), variable)
+        {
             return Err(Refusal::Scope);
         }
         let mut variables = self.variables;
         variables[len as usize] = variable;
-        *self = Scope { len: len + 1, variables };
+        *self = Scope {
+            len: len + 1,
+            variables,
+        };
         Ok(())
     }
 
@@ -89,7 +98,7 @@ impl Scope {
     pub(crate) fn setting(&self, tuple: &[u8], sizes: &Sizes) -> Option<Setting>
         ensures { λ r. ⌜ Cases r (fits (sizes-of (now (sizes .entry))) (scope-of (now (self .entry))) (now (tuple .entry)) ≡ false)
             (λ s. (fits (sizes-of (now (sizes .entry))) (scope-of (now (self .entry))) (now (tuple .entry)) ≡ true)
-                × ((v : ℕ) → of (values-of s) v ≡ along (scope-of (now (self .entry))) (now (tuple .entry)) v)) ⌝ }
+            × ((v : ℕ) → of (values-of s) v ≡ along (scope-of (now (self .entry))) (now (tuple .entry)) v)) ⌝ }
     {
         let variables = self.variables();
         if variables.len() != tuple.len() {

@@ -48,6 +48,10 @@ impl Setting {
         ensures { λ r. ⌜ r ≡ of (values-of (now (self .entry))) variable ⌝ }
     {
         let slot = variable as usize;
-        if slot < self.values.len() { self.values[slot] } else { 0 }
+        if slot < self.values.len() {
+            self.values[slot]
+        } else {
+            0
+        }
     }
 }

@@ -17,7 +17,10 @@ impl Sizes {
     pub fn none() -> Sizes
         ensures { λ r. ⌜ sizes-of r ≡ [] ⌝ }
     {
-        Sizes { sizes: [0; 32], len: 0 }
+        Sizes {
+            sizes: [0; 32],
+            len: 0,
+        }
     }
 
     // The sizes of a list of 1 to 32 variables, each of 1 to 16 values.
@@ -49,7 +52,10 @@ impl Sizes {
         }
         let mut sizes = self.sizes;
         sizes[len] = size;
-        *self = Sizes { sizes, len: len + 1 };
+        *self = Sizes {
+            sizes,
+            len: len + 1,
+        };
         Ok(())
     }
 
@@ -63,6 +69,10 @@ impl Sizes {
     pub fn size(&self, variable: u8) -> u8
         ensures { λ r. ⌜ r ≡ getD (sizes-of (now (self .entry))) variable 0 ⌝ }
     {
-        if (variable as usize) < self.len { self.sizes[variable as usize] } else { 0 }
+        if (variable as usize) < self.len {
+            self.sizes[variable as usize]
+        } else {
+            0
+        }
     }
 }

@@ -58,6 +58,9 @@ pub impl From<Refusal> for Fault as FaultFromRefusal {
     ghost converts = { λ why r. r ≡ record { flaw = Job why; at = 0 } };
 
     fn from(why: Refusal) -> Fault {
-        Fault { flaw: Flaw::Job(why), at: 0 }
+        Fault {
+            flaw: Flaw::Job(why),
+            at: 0,
+        }
     }
 }

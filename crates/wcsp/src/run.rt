@@ -13,7 +13,7 @@ fn is_blank(byte: u8) -> bool
 }
 
 // The first place from `from` on that holds no blank, or the text's end.
-pub fn skip_blanks(text: &[u8], from: usize) -> usize
+pub(crate) fn skip_blanks(text: &[u8], from: usize) -> usize
     ensures { λ r. ⌜ r ≡ from + blanks (drop from (now (text .entry))) ⌝ }
 {
     let mut at = from;
@@ -24,7 +24,7 @@ pub fn skip_blanks(text: &[u8], from: usize) -> usize
 }
 
 // The first place from `from` on that holds a blank, or the text's end.
-pub fn run_end(text: &[u8], from: usize) -> usize
+pub(crate) fn run_end(text: &[u8], from: usize) -> usize
     ensures { λ r. ⌜ r ≡ from + run (drop from (now (text .entry))) ⌝ }
 {
     let mut end = from;

@@ -43,10 +43,11 @@ returns c =
     let there = ap (λ o. problem o area) (c .shape-shape .ensures) ∙ loaded .2 .problem-is in
     let given = c .in-Continue-setting .ensures tt in
     let page = c .in-Continue-page .ensures tt in
-    let title = ap now (c .unwrap-or-title .ensures) ∙ title-is (c .name .result) _ (d .name) (c .name .ensures ∙ loading-name (c .args .text .now) cells d is) in
-    (
-      d, is, full-there d o area (c .args .values .now) same there (given .0) (c .shape-shape .result .scoped),
+    let title = ap now (c .unwrap-or-title .ensures) ∙ title-is (c .name .result) _ (d .name) (c .name .ensures ∙ loading-name (c .args .text .now) cells d is) in (
+      d,
+      is,
+      full-there d o area (c .args .values .now) same there (given .0) (c .shape-shape .result .scoped),
       page-there d o area (c .args .values .now) same there (given .0) (c .shape-shape .result .scoped) (c .unwrap-or-title .result .now) (values-of (c .in-Continue-setting .setting)) (page .0) (c .in-Continue-upper .upper)
-        (vec-items (c .in-Continue-page .page)) title (given .1) (page .1) (loaded .2 .upper-is) (page .2)
-      ∙ ap (λ k. cost-page d k (c .args .values .now)) (loaded .2 .long)
+          (vec-items (c .in-Continue-page .page)) title (given .1) (page .1) (loaded .2 .upper-is) (page .2)
+          ∙ ap (λ k. cost-page d k (c .args .values .now)) (loaded .2 .long),
     )

@@ -12,7 +12,7 @@ pub loop-k-again : need.loop-k-again
 loop-k-again c =
     let o = outline (c .args .shape .now) in
     lines-more (o .sizes) (c .args .area .now) (of (values-of (c .args .setting .now))) (vec-items (c .loop-k .page)) (vec-items (c .record-line .last .page)) _ (c .loop-k .k) (o .functions)
-      (omega arith) (c .in-Continue-record-line .ensures tt) (c .loop-k .inv)
+    (omega arith) (c .in-Continue-record-line .ensures tt) (c .loop-k .inv)
 
 pub returns : need.returns
 returns c =

@@ -12,4 +12,4 @@ use Rattle.planner.proofs.pricing.record_lines.Given as given
 abbrev pub Inv-loop-k : given.InvT-loop-k
 Inv-loop-k l =
     vec-items (l .page) ++ record-lines (outline (l .shape) .sizes) (l .area) (of (values-of (l .setting))) (l .k) (drop (l .k) (outline (l .shape) .functions))
-      ≡ vec-items (l .entry .page) ++ record-lines (outline (l .shape) .sizes) (l .area) (of (values-of (l .setting))) 0 (outline (l .shape) .functions)
+    ≡ vec-items (l .entry .page) ++ record-lines (outline (l .shape) .sizes) (l .area) (of (values-of (l .setting))) 0 (outline (l .shape) .functions)

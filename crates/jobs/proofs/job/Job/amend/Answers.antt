@@ -25,12 +25,11 @@ returns g c =
     let p = c .args .self .now .plain in
     let o = outline (p .shape) in
     let at = c .in-Continue-at .ensures tt in
-    let rows = own-rows p Amend (length (c .args .area .now)) refl (c .in-Continue-takes .ensures tt .0) (c .in-Continue-takes-area .ensures tt .0) (amending o (c .args .function) (c .args .tuple .now)) in
-    (
+    let rows = own-rows p Amend (length (c .args .area .now)) refl (c .in-Continue-takes .ensures tt .0) (c .in-Continue-takes-area .ensures tt .0) (amending o (c .args .function) (c .args .tuple .now)) in (
       rows ∙ at .0,
       record {
         job-is = refl;
         cells-are = ap (λ k. set (c .args .area .now) k (c .args .cost)) (at .1);
         problem-is = ap (λ k. problem o (set (c .args .area .now) k (c .args .cost))) (at .1) ∙ (amend-problem o (p .shape .laid) (c .args .area .now) (c .args .function) (c .args .tuple .now) (c .args .cost) (at .0));
-      }
+      },
     )

@@ -24,11 +24,10 @@ pub loop-variable-again : need.loop-variable-again
 loop-variable-again c =
     let l = c .loop-variable in
     let n = length (sizes-of (c .args .sizes .now)) in
-    let why = c .in-Continue-push .ensures tt in
-    (
+    let why = c .in-Continue-push .ensures tt in (
       l .inv .0,
       turn-same 32 n (c .args .variables .now) (order-of (l .order)) (l .variable-index) (omega arith) (l .inv .1) (l .inv .2) (order-of (c .push .last .self)) (why .1),
-      turn-taken 32 n (c .args .variables .now) (order-of (l .order)) (l .variable-index) (omega arith) (l .inv .1) (l .inv .2) (no-row _ _ (why .0))
+      turn-taken 32 n (c .args .variables .now) (order-of (l .order)) (l .variable-index) (omega arith) (l .inv .1) (l .inv .2) (no-row _ _ (why .0)),
     )
 
 pub returns : need.returns

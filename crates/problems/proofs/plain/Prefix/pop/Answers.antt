@@ -24,5 +24,5 @@ returns c =
     record {
       some = grind (arith, tells);
       values = ap (λ n. map (of slots) (take n (order-of o))) (sym whole) ∙ last ∙
-        rw (v, ← c .give .ensures, ← c .value-value .ensures);
+          rw (v, ← c .give .ensures, ← c .value-value .ensures);
     }

@@ -20,5 +20,5 @@ returns c =
     record {
       more = sym (lt-ltb k (length (order-of o)) (omega arith));
       values = ap (λ (xs : List ℕ). map (of xs) (take (k + 1) (order-of o))) (c .give .ensures)
-        ∙ rw (← v) (next-value (order-of o) slots k (c .args .value) (omega arith) (o .apart) (omega (arith, o .within k)));
+          ∙ rw (← v) (next-value (order-of o) slots k (c .args .value) (omega arith) (o .apart) (omega (arith, o .within k)));
     }

@@ -36,10 +36,9 @@ loop-v-again c =
     let v = getD (c .variables-v-items .result .now) i 0 in
     let byte : getD (c .args .setting .now .values) v 0 ≤ 255 = search needs in
     let step = at-drop-more (λ vs. cell-from (sizes-of (c .args .sizes .now)) (c .loop-v .at) vs (of (values-of (c .args .setting .now)))) (scope-of (c .args .self .now)) i 0
-      (in-scope (c .args .self .now) _ (c .variables-v-items .ensures) i (c .loop-v-test .taken)) in
-    (
+    (in-scope (c .args .self .now) _ (c .variables-v-items .ensures) i (c .loop-v-test .taken)) in (
       rw (c .variables-v-items .ensures, ← size-slot (c .args .sizes .now) (getD (scope-of (c .args .self .now)) i 0), ← step) (c .loop-v .inv .0),
-      place-more (c .loop-v .at) (getD (c .args .sizes .now .sizes) v 0) (getD (c .args .setting .now .values) v 0) i (c .loop-v .inv .1) (c .args .sizes .now .small v) byte
+      place-more (c .loop-v .at) (getD (c .args .sizes .now .sizes) v 0) (getD (c .args .setting .now .values) v 0) i (c .loop-v .inv .1) (c .args .sizes .now .small v) byte,
     )
 
 pub returns : need.returns
@@ -48,7 +47,7 @@ returns c =
     let s = c .args .self .now in
     let end = rw (c .variables-v-items .ensures) at (c .loop-v .kept .v-index-end) in
     let done = at-drop-all (λ vs. cell-from (sizes-of (c .args .sizes .now)) (c .loop-v .at) vs (of (values-of (c .args .setting .now)))) (scope-of s) i
-      (rw (c .variables-v-items .ensures) at (c .loop-v-test .left)) in
+    (rw (c .variables-v-items .ensures) at (c .loop-v-test .left)) in
     record {
       place = sym done ∙ c .loop-v .inv .0;
       bound = place-few (c .loop-v .at) i (omega (arith, end, length-take (s .len) (s .variables))) (c .loop-v .inv .1);

@@ -9,5 +9,5 @@ use Rattle.problems.proofs.plain.Scope.cell.Given as given
 abbrev pub Inv-loop-v : given.InvT-loop-v
 Inv-loop-v l =
     (cell-from (sizes-of (l .sizes)) (l .at) (drop (l .v-index) (scope-of (l .self))) (of (values-of (l .setting)))
-      ≡ cell-from (sizes-of (l .sizes)) 0 (scope-of (l .self)) (of (values-of (l .setting)))) ×
+    ≡ cell-from (sizes-of (l .sizes)) 0 (scope-of (l .self)) (of (values-of (l .setting)))) ×
     (l .at + 17 ≤ 17 * 16 ^ l .v-index)

@@ -22,10 +22,9 @@ pub loop-variable-again : need.loop-variable-again
 loop-variable-again c =
     let l = c .loop-variable in
     let n = length (sizes-of (c .args .sizes .now)) in
-    let why = c .in-Continue-push .ensures tt in
-    (
+    let why = c .in-Continue-push .ensures tt in (
       turn-same 5 n (c .args .variables .now) (scope-of (l .scope)) (l .variable-index) (omega arith) (l .inv .0) (l .inv .1) (scope-of (c .push .last .self)) (why .1),
-      turn-taken 5 n (c .args .variables .now) (scope-of (l .scope)) (l .variable-index) (omega arith) (l .inv .0) (l .inv .1) (no-row _ _ (why .0))
+      turn-taken 5 n (c .args .variables .now) (scope-of (l .scope)) (l .variable-index) (omega arith) (l .inv .0) (l .inv .1) (no-row _ _ (why .0)),
     )
 
 pub returns : need.returns

@@ -45,11 +45,10 @@ loop-k-again c =
     let value = ap (λ vs. getD sizes (getD vs k 0) 0) (c .variables-variables .ensures) in
     let good = lt-ltb (getD tuple k 0) (getD sizes (getD scope k 0) 0) (omega arith) in
     let slot = variable-slot (c .args .self .now) _ (c .variables-variables .ensures) k (c .loop-k-test .taken) in
-    let var = ap (λ vs. getD vs k 0) (c .variables-variables .ensures) in
-    (
+    let var = ap (λ vs. getD vs k 0) (c .variables-variables .ensures) in (
       c .loop-k .inv .0,
       sym (step ∙ ap (λ b. b && fits sizes (drop (k + 1) scope) (drop (k + 1) tuple)) good) ∙ c .loop-k .inv .1,
-      λ v. rw (c .give .ensures, var) (along-more scope tuple (c .loop-k .setting .values) k (omega arith) (c .loop-k .inv .0) (c .args .self .now .apart) (omega arith) (c .loop-k .inv .2) v)
+      λ v. rw (c .give .ensures, var) (along-more scope tuple (c .loop-k .setting .values) k (omega arith) (c .loop-k .inv .0) (c .args .self .now .apart) (omega arith) (c .loop-k .inv .2) v),
     )
 
 pub returns : need.returns
@@ -59,8 +58,7 @@ returns c =
     let k = c .loop-k .k in
     let long = ap length (c .variables-variables .ensures) in
     let end : length scope ≤ k = omega arith in
-    let end′ : length tuple ≤ k = omega arith in
-    (
+    let end′ : length tuple ≤ k = omega arith in (
       rw (drop-all k scope end, drop-all k tuple end′) at (sym (c .loop-k .inv .1)),
-      λ v. rw (take-all k scope end, take-all k tuple end′) at (c .loop-k .inv .2 v)
+      λ v. rw (take-all k scope end, take-all k tuple end′) at (c .loop-k .inv .2 v),
     )

@@ -24,10 +24,9 @@ loop-v-again c =
     let i = c .loop-v .v-index in
     let v = getD (c .variables-v-items .result .now) i 0 in
     let step = at-drop-more (cells (sizes-of (c .args .sizes .now))) (scope-of (c .args .self .now)) i 0
-      (in-scope (c .args .self .now) _ (c .variables-v-items .ensures) i (c .loop-v-test .taken)) in
-    (
+    (in-scope (c .args .self .now) _ (c .variables-v-items .ensures) i (c .loop-v-test .taken)) in (
       rw (c .variables-v-items .ensures, ← size-slot (c .args .sizes .now) (getD (scope-of (c .args .self .now)) i 0), mul-assoc, ← step) (c .loop-v .inv .0),
-      count-more (c .loop-v .count) (getD (c .args .sizes .now .sizes) v 0) i (c .loop-v .inv .1) (c .args .sizes .now .small v)
+      count-more (c .loop-v .count) (getD (c .args .sizes .now .sizes) v 0) i (c .loop-v .inv .1) (c .args .sizes .now .small v),
     )
 
 pub returns : need.returns

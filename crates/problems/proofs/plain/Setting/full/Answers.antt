@@ -19,12 +19,11 @@ loop-v-holds c = (refl, omega arith, λ v h. absurd (omega arith), λ v. same-sl
 pub loop-v-again : need.loop-v-again
 loop-v-again c =
     let v = c .loop-v .v in
-    let xs = c .args .values .now in
-    (
+    let xs = c .args .values .now in (
       length-set (c .loop-v .slots) v (getD xs v 0) ∙ c .loop-v .inv .0,
       c .loop-v .inv .1,
       below-more _ _ (c .loop-v .inv .2) (rw (size-slot (c .args .sizes .now) v) (omega arith)),
-      copied xs (c .loop-v .slots) v (omega arith) (omega (arith, length-take (c .args .sizes .now .len) (c .args .sizes .now .sizes))) (c .loop-v .inv .3)
+      copied xs (c .loop-v .slots) v (omega arith) (omega (arith, length-take (c .args .sizes .now .len) (c .args .sizes .now .sizes))) (c .loop-v .inv .3),
     )
 
 pub returns : need.returns

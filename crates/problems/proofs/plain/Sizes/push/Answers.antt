@@ -14,12 +14,15 @@ ghost-self c =
     let s = c .args .self .now in
     let k = c .args .size in
     let room : s .len < length (s .sizes) = omega arith in
-    let there = getD-set-same (s .sizes) (s .len) k 0 room in
-    (
+    let there = getD-set-same (s .sizes) (s .len) k 0 room in (
       omega arith,
-      (each-after (λ x. x ≤ 16) (s .sizes) (s .len) k 0 (omega arith) (s .small),
-       (λ v h. elim (cases-eq v (s .len)) [ inl e ↦ rw (e, there) (omega arith) | inr n ↦ rw (getD-set-other (s .sizes) (s .len) v k 0 n) (s .some v (omega arith)) ],
-        (λ v h. rw (getD-set-other (s .sizes) (s .len) v k 0 (omega arith)) (s .rest v (omega arith)), tt)))
+      (
+        each-after (λ x. x ≤ 16) (s .sizes) (s .len) k 0 (omega arith) (s .small),
+        (
+          λ v h. elim (cases-eq v (s .len)) [ inl e ↦ rw (e, there) (omega arith) | inr n ↦ rw (getD-set-other (s .sizes) (s .len) v k 0 n) (s .some v (omega arith)) ],
+          (λ v h. rw (getD-set-other (s .sizes) (s .len) v k 0 (omega arith)) (s .rest v (omega arith)), tt),
+        ),
+      ),
     )
 
 pub returns : need.returns

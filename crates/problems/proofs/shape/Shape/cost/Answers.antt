@@ -45,5 +45,5 @@ returns g c =
     record {
       exact = exact;
       full = λ s full same. exact ∙ ap (λ (b : Assignment). total K (map (held K sizes area b) (placed fs))) (fun-ext same)
-        ∙ ap (total K) (all-there K sizes area s full (placed fs) (c .args .self .now .scoped));
+          ∙ ap (total K) (all-there K sizes area s full (placed fs) (c .args .self .now .scoped));
     }

@@ -11,4 +11,4 @@ use Rattle.problems.proofs.shape.Shape.cost.Given as given
 abbrev pub Inv-loop-k : given.InvT-loop-k
 Inv-loop-k g l =
     folded (g .C·Cost .structure) (l .sum) (drop (l .k) (map (held (g .C·Cost .structure) (outline (l .self) .sizes) (l .area) (of (values-of (l .setting)))) (outline (l .self) .functions)))
-      ≡ folded (g .C·Cost .structure) (g .C·Cost .structure .neutral) (map (held (g .C·Cost .structure) (outline (l .self) .sizes) (l .area) (of (values-of (l .setting)))) (outline (l .self) .functions))
+    ≡ folded (g .C·Cost .structure) (g .C·Cost .structure .neutral) (map (held (g .C·Cost .structure) (outline (l .self) .sizes) (l .area) (of (values-of (l .setting)))) (outline (l .self) .functions))

@@ -21,9 +21,10 @@ ghost-self c =
     let scope = ap (λ (p : Placed). p .scope) (c .entered .ensures) in
     let start = ap (λ (p : Placed). p .start) (c .entered .ensures) in
     let ok = not-false _ (no-row _ _ (c .in-Continue-scope .ensures tt .0)) in
-    let same = c .in-Continue-scope .ensures tt .1 in
-    (
+    let same = c .in-Continue-scope .ensures tt .1 in (
       rw (all, c .table-cells .ensures .count, ← scope) (laid-push sizes 2 (s .used) fs new (s .laid) start),
-      (rw all (proper-more (length sizes) fs new (s .scoped) (rw (scope, same) ok)),
-       (s .ordered, (omega arith, tt)))
+      (
+        rw all (proper-more (length sizes) fs new (s .scoped) (rw (scope, same) ok)),
+        (s .ordered, (omega arith, tt)),
+      ),
     )
