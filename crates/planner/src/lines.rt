@@ -47,7 +47,7 @@ fn numbers(page: &mut Vec<u8>, heap: Global, list: &[u8]) -> Result<(), AllocErr
 }
 
 // job NAME: N variables, M functions, U of A cells
-pub fn job_line(
+pub(crate) fn job_line(
     page: &mut Vec<u8>,
     heap: Global,
     name: &[u8],
@@ -71,7 +71,7 @@ pub fn job_line(
 }
 
 // function K (V V V): C
-pub fn function_line(
+pub(crate) fn function_line(
     page: &mut Vec<u8>,
     heap: Global,
     k: usize,
@@ -100,7 +100,7 @@ fn side(cost: u32, upper: u32) -> &'static str
 }
 
 // cost: C, below the upper bound U, or not below it
-pub fn verdict_line(
+pub(crate) fn verdict_line(
     page: &mut Vec<u8>,
     heap: Global,
     cost: u32,

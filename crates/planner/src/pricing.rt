@@ -153,7 +153,7 @@ fn priced_in(area: &mut [u32], heap: Global, text: &[u8], values: &[u8]) -> Resu
 }
 
 // The page of a setting's cost in the job that a text describes.
-pub fn cost_page(heap: Global, text: &[u8], values: &[u8]) -> Result<Vec<u8>, Failure>
+pub(crate) fn cost_page(heap: Global, text: &[u8], values: &[u8]) -> Result<Vec<u8>, Failure>
     ensures { λ r. ⌜ Priced (loading (now (text .entry)) 16384) 16384 (now (values .entry)) r ⌝ }
 {
     let mut area = vec![in heap; 0u32; CELLS]?;

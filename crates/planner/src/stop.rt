@@ -29,7 +29,7 @@ pub impl<T: Drop> From<NoPlace<T>> for Stop as StopFromNoPlace {
 }
 
 // JOB: refused NUMBER at byte OFFSET, with the job's own number where one is carried
-pub fn refused_line(heap: Global, job: &str, fault: Fault) -> Result<String, AllocError>
+pub(crate) fn refused_line(heap: Global, job: &str, fault: Fault) -> Result<String, AllocError>
     ensures { λ r. ⌜ made r (λ s. string-bytes s ≡ refused-line (now (job .entry)) fault) ⌝ }
 {
     let number = fault.flaw.number();
