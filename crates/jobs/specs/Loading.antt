@@ -13,6 +13,7 @@ use Rattle.wcsp.specs.declared.fault.Flaw.the-variants.{Job as OfJob}
 use Rattle.wcsp.specs.Readings.{fault}
 use Rattle.wcsp.specs.Layouts.{Document}
 use Rattle.wcsp.specs.Described.{outlined, described}
+use Rattle.wcsp.specs.Costs.{Costs}
 use Rattle.wcsp.specs.Loads.{loading}
 use Rattle.jobs.specs.declared.stage.Stage.the-variants.{Draft}
 use Rattle.jobs.specs.declared.stage.Call.the-variants.{Load}
@@ -25,11 +26,12 @@ abbrev pub load-outcome : Standing → List ℕ → ℕ → Result Document Faul
 load-outcome j text cells = cond (takes (j .stage) Load) (loading text cells) (fault (OfJob WrongStage) 0)
 
 module _ {S : Type 0} where
-  -- the job is the one that the text describes; of the area only the tables' cells changed
+  -- the job is the one that the text describes, each tuple with its listed cost or the default; of the area only the tables' cells changed
   pub record Loaded (b a : Job ℕ S) (area area′ : List ℕ) (d : Document) (upper : ℕ) : Type 0 where
     pub upper-is : upper ≡ d .upper
     pub stands : Stands a (record { stage = Draft; outline = outlined d; noted = length area }) (b .source)
     pub problem-is : problem (standing a .outline) area′ ≡ described d
+    pub costs-are : Costs d
     pub long : length area′ ≡ length area
     pub before : take 2 area′ ≡ take 2 area
     pub behind : drop (standing a .outline .used) area′ ≡ drop (standing a .outline .used) area

@@ -1,9 +1,9 @@
 -- What the plain records say.
 use mathlib.Core.Path.{_≡_}
 use mathlib.Core.Bool.{Bool, true, _&&_}
-use mathlib.Core.List.{List, [], _∷_, map}
+use mathlib.Core.List.{List, [], _∷_, _++_, map}
 use Prim.Native.Nat.{ℕ, zero, suc, _+_, _<_, _≤_}
-use lib.ListN.{length, getD, take, drop}
+use lib.ListN.{length, getD, set, take, drop}
 use lib.Dec.{eqb}
 use Rattle.std.specs.declared.option.Option.{Option}
 use Rattle.std.specs.declared.option.Option.the-variants.{Some, None}
@@ -48,6 +48,18 @@ Fills sizes s (Err (Value v)) =
 -- the values of the first variables, along the order
 abbrev pub prefix-of : Order → Prefix → List ℕ
 prefix-of o p = map (of (values-of (p .setting))) (take (p .len) (order-of o))
+
+-- one value more, for the next variable of the order; every other slot is as it was
+pub record Longer (o : Order) (b a : Prefix) (value : ℕ) : Type 0 where
+  pub len : a .len ≡ b .len + 1
+  pub slots : values-of (a .setting) ≡ set (values-of (b .setting)) (getD (order-of o) (b .len) 0) value
+  pub values : prefix-of o a ≡ prefix-of o b ++ value ∷ []
+
+-- the last value taken away, and its variable set to 0
+pub record Shorter (o : Order) (b a : Prefix) (value : ℕ) : Type 0 where
+  pub len : a .len + 1 ≡ b .len
+  pub slots : values-of (a .setting) ≡ set (values-of (b .setting)) (getD (order-of o) (a .len) 0) 0
+  pub values : prefix-of o b ≡ prefix-of o a ++ value ∷ []
 
 -- what a function's record says: its scope, the bucket that it came from, and the cell at which its table starts
 pub record Placed : Type 0 where

@@ -1,13 +1,13 @@
 // Values for the first variables of an order, one more or one less at a time.
 ghost use mathlib.Core.Path.{_≡_};
-ghost use mathlib.Core.Bool.{cond, _&&_};
-ghost use mathlib.Core.List.{[], _∷_, _++_};
+ghost use mathlib.Core.Bool.{_&&_};
 ghost use Prim.Native.Nat.{ℕ};
 ghost use lib.Dec.{ltb, leb};
 ghost use lib.ListN.{length};
 ghost use Rattle.std.specs.Options.{Cases, isSome};
+ghost use Rattle.std.specs.Orderings.{When};
 ghost use Rattle.problems.specs.Problems.{of};
-ghost use Rattle.problems.specs.Records.{order-of, prefix-of, values-of};
+ghost use Rattle.problems.specs.Records.{order-of, values-of, Longer, Shorter};
 use crate::order::Order;
 pub use crate::plain::Prefix;
 use crate::setting::Setting;
@@ -33,7 +33,7 @@ impl Prefix {
     // A value for the next variable of the order; false, and nothing changed, where all have one.
     pub fn push(&mut self, order: &Order, value: u8) -> bool
         ensures more { λ r. ⌜ r ≡ ltb (now (self .entry) .len) (length (order-of (now (order .entry)))) ⌝ }
-        ensures values { λ r. ⌜ prefix-of (now (order .entry)) (now (self .exit)) ≡ cond r (prefix-of (now (order .entry)) (now (self .entry)) ++ value ∷ []) (prefix-of (now (order .entry)) (now (self .entry))) ⌝ }
+        ensures after { λ r. ⌜ When r (Longer (now (order .entry)) (now (self .entry)) (now (self .exit)) value) (now (self .exit) ≡ now (self .entry)) ⌝ }
     {
         let len = self.len;
         if len >= order.len {
@@ -51,8 +51,7 @@ impl Prefix {
     // Takes the last value away, and answers it; the variable is then 0.
     pub fn pop(&mut self, order: &Order) -> Option<u8>
         ensures some { λ r. ⌜ isSome r ≡ (ltb 0 (now (self .entry) .len) && leb (now (self .entry) .len) (length (order-of (now (order .entry))))) ⌝ }
-        ensures values { λ r. ⌜ Cases r (now (self .exit) ≡ now (self .entry))
-            (λ value. prefix-of (now (order .entry)) (now (self .entry)) ≡ prefix-of (now (order .entry)) (now (self .exit)) ++ value ∷ []) ⌝ }
+        ensures after { λ r. ⌜ Cases r (now (self .exit) ≡ now (self .entry)) (Shorter (now (order .entry)) (now (self .entry)) (now (self .exit))) ⌝ }
     {
         let len = self.len;
         if len == 0 || len > order.len {

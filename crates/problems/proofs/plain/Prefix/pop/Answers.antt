@@ -23,6 +23,9 @@ returns c =
     let last = last-value (order-of o) slots k 0 (omega arith) (o .apart) in
     record {
       some = grind (arith, tells);
-      values = ap (λ n. map (of slots) (take n (order-of o))) (sym whole) ∙ last ∙
-          rw (v, ← c .give .ensures, ← c .value-value .ensures);
+      after = record {
+        len = whole;
+        slots = c .give .ensures ∙ ap (λ u. set slots u 0) (sym v);
+        values = ap (λ n. map (of slots) (take n (order-of o))) (sym whole) ∙ last ∙ rw (v, ← c .give .ensures, ← c .value-value .ensures);
+      };
     }
