@@ -88,6 +88,11 @@ function-in sizes area f = record { scope = f .scope; table = take (cells sizes 
 abbrev pub held : {C : Type 0} → Structure C → List ℕ → List C → Assignment → Placed → C
 held K sizes area a f = getD area (f .start + cell-from sizes 0 (f .scope) a) (K .neutral)
 
+-- the same of a record that may not be there
+abbrev pub held-by : {C : Type 0} → Structure C → List ℕ → List C → Assignment → Option Placed → C
+held-by K sizes area a None = K .neutral
+held-by K sizes area a (Some f) = held K sizes area a f
+
 -- tables lie from one cell to another, one behind the other without gaps
 abbrev pub laid-from : List ℕ → ℕ → List Placed → ℕ → Bool
 laid-from sizes from [] to = eqb from to

@@ -5,7 +5,7 @@ ghost use Prim.Native.Nat.{ℕ};
 ghost use Rattle.costs.specs.Structures.{total};
 ghost use Rattle.problems.specs.Outlines.{outline, problem};
 ghost use Rattle.problems.specs.Problems.{of, cost, Full};
-ghost use Rattle.problems.specs.Records.{sizes-of, values-of, placed-of, held};
+ghost use Rattle.problems.specs.Records.{sizes-of, values-of, placed-of, nth, held, held-by};
 use crate::functions::FunctionRecord;
 use crate::setting::Setting;
 use crate::shape::Shape;
@@ -39,5 +39,18 @@ impl Shape {
             sum = sum.combine(function.cost(&self.sizes, setting, area));
         }
         sum
+    }
+
+    // What one function costs at a setting, neutral for a number that none has.
+    pub fn function_cost<C: Cost>(&self, number: usize, setting: &Setting, area: &[C]) -> C
+        ensures { λ r. ⌜ r ≡ held-by (C·Cost .structure) (outline (now (self .entry)) .sizes) (now (area .entry)) (of (values-of (now (setting .entry)))) (nth (outline (now (self .entry)) .functions) number) ⌝ }
+    {
+        if number < self.functions.len {
+            self.functions
+                .records[number]
+                .cost(&self.sizes, setting, area)
+        } else {
+            C::neutral()
+        }
     }
 }

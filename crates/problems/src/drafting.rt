@@ -1,6 +1,7 @@
 // How a shape comes about: opened with sizes, functions entered one by one, then put in order.
 ghost use mathlib.Core.Path.{_≡_};
 ghost use mathlib.Core.List.{[]};
+ghost use Prim.Native.Nat.{_≤_};
 ghost use lib.ListN.{length};
 ghost use Rattle.problems.specs.Outlines.{outline, opened, entered, ordered, entering, amending, cell-of};
 ghost use Rattle.std.specs.Options.{mapped};
@@ -115,7 +116,8 @@ impl Shape {
     }
 
     pub fn function_count(&self) -> usize
-        ensures { λ r. ⌜ r ≡ length (outline (now (self .entry)) .functions) ⌝ }
+        ensures count { λ r. ⌜ r ≡ length (outline (now (self .entry)) .functions) ⌝ }
+        ensures few { λ r. ⌜ r ≤ 64 ⌝ }
     {
         self.functions.len()
     }

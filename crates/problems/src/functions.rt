@@ -63,7 +63,8 @@ impl Functions {
     }
 
     pub(crate) fn len(&self) -> usize
-        ensures { λ r. ⌜ r ≡ length (placed (now (self .entry))) ⌝ }
+        ensures count { λ r. ⌜ r ≡ length (placed (now (self .entry))) ⌝ }
+        ensures few { λ r. ⌜ r ≤ 64 ⌝ }
     {
         self.len
     }

@@ -30,6 +30,13 @@ impl Prefix {
         self.len
     }
 
+    // The values by variable number.
+    pub fn setting(&self) -> Setting
+        ensures { λ r. ⌜ r ≡ now (self .entry) .setting ⌝ }
+    {
+        self.setting
+    }
+
     // A value for the next variable of the order; false, and nothing changed, where all have one.
     pub fn push(&mut self, order: &Order, value: u8) -> bool
         ensures more { λ r. ⌜ r ≡ ltb (now (self .entry) .len) (length (order-of (now (order .entry)))) ⌝ }

@@ -7,7 +7,7 @@ use Rattle.planner.proofs.lines.job_line.Needs as need
 pub returns : need.returns
 returns c =
     let n = c .len-variables .ensures in
-    let m = c .function-count-functions .ensures in
+    let m = c .function-count-functions .ensures .count in
     let s = c .sizes .ensures in
     let u = c .used-used .ensures in
     three-parts (vec-items (c .args .page .now)) (vec-items (c .text .last .page)) (vec-items (c .extend-from-slice .last .self)) _ _ (codes "job ") (c .args .name .now)

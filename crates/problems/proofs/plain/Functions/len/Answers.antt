@@ -5,4 +5,7 @@ use Rattle.problems.proofs.Placements.{used-length}
 use Rattle.problems.proofs.plain.Functions.len.Needs as need
 
 pub returns : need.returns
-returns c = sym (used-length placed-of (c .args .self .now .len) (c .args .self .now .records) (omega arith))
+returns c = record {
+  count = sym (used-length placed-of (c .args .self .now .len) (c .args .self .now .records) (omega arith));
+  few = c .args .self .now .few;
+}

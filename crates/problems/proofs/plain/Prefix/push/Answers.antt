@@ -23,6 +23,6 @@ returns c =
         len = refl;
         slots = c .give .ensures ∙ ap (λ u. set slots u (c .args .value)) (sym v);
         values = ap (λ (xs : List ℕ). map (of xs) (take (k + 1) (order-of o))) (c .give .ensures)
-          ∙ rw (← v) (next-value (order-of o) slots k (c .args .value) (omega arith) (o .apart) (omega (arith, o .within k)));
+            ∙ rw (← v) (next-value (order-of o) slots k (c .args .value) (omega arith) (o .apart) (omega (arith, o .within k)));
       };
     }
