@@ -1,4 +1,6 @@
 // Cost structures: what a cost is, and the three that are built.
+#![tactic(auto)]
+
 mod cost;
 mod pair;
 mod ranked;

@@ -1,4 +1,6 @@
 // Worked examples and edges of the refusals, as tests.
+#![tactic(auto)]
+
 #[cfg(test)]
 mod amending;
 #[cfg(test)]

@@ -1,4 +1,6 @@
 // Floors: lower bounds on the cost of every full setting that begins with a prefix.
+#![tactic(auto)]
+
 pub mod buckets;
 pub mod first_choice;
 mod given;

@@ -1,4 +1,6 @@
 // A job: one problem on its way from draft to verdict, in memory that is lent to each call.
+#![tactic(auto)]
+
 mod amend;
 pub mod answer;
 mod cells;

@@ -1,4 +1,6 @@
 // Orders of a job's variables: as they are numbered, and by elimination.
+#![tactic(auto)]
+
 mod cliques;
 mod fill;
 pub mod min_fill;

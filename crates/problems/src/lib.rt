@@ -1,4 +1,6 @@
 // Problems as plain records: function records over variables, a job's shape, and what a setting costs.
+#![tactic(auto)]
+
 mod costing;
 mod drafting;
 pub mod functions;

@@ -1,4 +1,6 @@
 // A list of calls, carried out one after the other.
+#![tactic(auto)]
+
 mod answers;
 pub mod calls;
 mod parts;

@@ -1,4 +1,6 @@
 // Scripts of calls as texts: three heading lines, then a call on each line.
+#![tactic(auto)]
+
 mod calls;
 pub mod costs_written;
 pub mod flaw;

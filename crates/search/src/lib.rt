@@ -1,4 +1,6 @@
 // Branch and bound, written once for every cost structure and every source of floors.
+#![tactic(auto)]
+
 pub mod place;
 mod plain;
 pub mod run;

@@ -1,4 +1,6 @@
 // Variables as plain records: domain sizes, an order, settings, prefixes and scopes, and why a call is refused.
+#![tactic(auto)]
+
 pub mod listing;
 pub mod order;
 pub mod plain;

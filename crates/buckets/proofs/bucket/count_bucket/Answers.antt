@@ -12,11 +12,11 @@ use Rattle.buckets.proofs.Propers.{listed_few}
 use Rattle.buckets.proofs.Coming.{proper_next, passed_less, counting_begins, counting_slot, counting_goes, counting_ends}
 use Rattle.buckets.proofs.bucket.count_bucket.Goals as goal
 
-pub overflow-add-number : goal.overflow-add-number
-overflow-add-number c = let o = c.args.plan.now.order in Fits-below {n = 255} tt (omega (arith, c.requires.number, length-take o.len o.variables, o.few))
+pub overflow_add-number : goal.overflow_add-number
+overflow_add-number c = let o = c.args.plan.now.order in Fits-below {n = 255} tt (omega (arith, c.requires.number, length-take o.len o.variables, o.few))
 
-pub overflow-cast-number : goal.overflow-cast-number
-overflow-cast-number c = let o = c.args.plan.now.order in Fits-below {n = 255} tt (omega (arith, c.requires.number, length-take o.len o.variables, o.few))
+pub overflow_cast-number : goal.overflow_cast-number
+overflow_cast-number c = let o = c.args.plan.now.order in Fits-below {n = 255} tt (omega (arith, c.requires.number, length-take o.len o.variables, o.few))
 
 pub loop-waiting-init : goal.loop-waiting-init
 loop-waiting-init c =
@@ -40,8 +40,8 @@ push-requires c =
     counting_slot (sizes_of plan.sizes) (order_of plan.order) plan.width c.args.p (listed c.args.records.now) (listed c.loop-waiting.records) (listed ws) c.loop-waiting.cells c.loop-waiting.invariant
     (omega (arith, listed_length ws, c.loop-waiting-test.true)) c.requires
 
-pub overflow-add-cells : goal.overflow-add-cells
-overflow-add-cells c = Fits-below {n = 4294967295} tt (omega (arith, c.loop-waiting.invariant.small, listed_length c.loop-waiting.records, c.loop-waiting.records.few, c.table-cells-cells.ensures.few))
+pub overflow_add-cells : goal.overflow_add-cells
+overflow_add-cells c = Fits-below {n = 4294967295} tt (omega (arith, c.loop-waiting.invariant.small, listed_length c.loop-waiting.records, c.loop-waiting.records.few, c.table-cells-cells.ensures.few))
 
 pub loop-waiting-preserved : goal.loop-waiting-preserved
 loop-waiting-preserved c =

@@ -17,11 +17,11 @@ use Rattle.buckets.proofs.Coming.{proper_next, passed_less}
 use Rattle.buckets.proofs.Making.{making_begins, making_slot, making_room, making_below, making_inside, making_goes, making_ends, inside_as}
 use Rattle.buckets.proofs.bucket.fill_bucket.Goals as goal
 
-pub overflow-add-number : goal.overflow-add-number
-overflow-add-number g c = let o = c.args.plan.now.order in Fits-below {n = 255} tt (omega (arith, c.requires.ready.number, length-take o.len o.variables, o.few))
+pub overflow_add-number : goal.overflow_add-number
+overflow_add-number g c = let o = c.args.plan.now.order in Fits-below {n = 255} tt (omega (arith, c.requires.ready.number, length-take o.len o.variables, o.few))
 
-pub overflow-cast-number : goal.overflow-cast-number
-overflow-cast-number g c = let o = c.args.plan.now.order in Fits-below {n = 255} tt (omega (arith, c.requires.ready.number, length-take o.len o.variables, o.few))
+pub overflow_cast-number : goal.overflow_cast-number
+overflow_cast-number g c = let o = c.args.plan.now.order in Fits-below {n = 255} tt (omega (arith, c.requires.ready.number, length-take o.len o.variables, o.few))
 
 pub loop-waiting-init : goal.loop-waiting-init
 loop-waiting-init g c =

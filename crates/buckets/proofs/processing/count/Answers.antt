@@ -17,8 +17,8 @@ count-bucket-cells-requires c =
     walk_ready (sizes_of plan.sizes) (order_of plan.order) plan.width (listed c.args.functions.now) c.requires c.loop-p.p c.loop-p-test.true (omega (arith, c.loop-p.auto.p, ap length c.variables-p.ensures))
     (listed c.loop-p.records) c.loop-p.invariant.scopes
 
-pub overflow-add-cells : goal.overflow-add-cells
-overflow-add-cells c =
+pub overflow_add-cells : goal.overflow_add-cells
+overflow_add-cells c =
     let o = c.args.plan.now.order in
     Fits-below {n = 18446744073709551615} tt (omega (arith, c.loop-p.invariant.small, c.count-bucket-cells.ensures.few, length-take o.len o.variables, o.few))
 

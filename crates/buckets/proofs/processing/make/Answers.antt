@@ -12,8 +12,8 @@ use Rattle.buckets.proofs.processing.make.Goals as goal
 few : (o : Order) (items : List ℕ) → items ≡ order_of o → length items ≤ 32
 few o items e = omega (arith, ap length e, length-take o.len o.variables, o.few)
 
-pub offset-bounds-reach-n : goal.offset-bounds-reach-n
-offset-bounds-reach-n g c = Fits-below {n = 4096} tt (omega (arith, few c.args.plan.now.order c.variables-n.result.now c.variables-n.ensures))
+pub offset_bounds-reach-n : goal.offset_bounds-reach-n
+offset_bounds-reach-n g c = Fits-below {n = 4096} tt (omega (arith, few c.args.plan.now.order c.variables-n.result.now c.variables-n.ensures))
 
 pub bounds-reach-n : goal.bounds-reach-n
 bounds-reach-n g c = omega (arith, few c.args.plan.now.order c.variables-n.result.now c.variables-n.ensures)
@@ -62,8 +62,8 @@ returns g c =
     let l = c.loop-p in
     gone_ends g.C.Cost.structure (sizes_of plan.sizes) (order_of plan.order) plan.width (listed c.args.functions.now) c.args.area.now c.args.at c.requires.able c.requires.spacious l.p (listed l.records) l.reach l.area l.end (omega (arith, c.loop-p-test.false)) l.invariant.0
 
-pub offset-bounds-reach-p : goal.offset-bounds-reach-p
-offset-bounds-reach-p g c = Fits-below {n = 4096} tt (omega (arith, c.loop-p.auto.p, few c.args.plan.now.order c.variables-n.result.now c.variables-n.ensures))
+pub offset_bounds-reach-p : goal.offset_bounds-reach-p
+offset_bounds-reach-p g c = Fits-below {n = 4096} tt (omega (arith, c.loop-p.auto.p, few c.args.plan.now.order c.variables-n.result.now c.variables-n.ensures))
 
 pub bounds-reach-p : goal.bounds-reach-p
 bounds-reach-p g c = omega (arith, c.loop-p.auto.p, few c.args.plan.now.order c.variables-n.result.now c.variables-n.ensures)

@@ -30,16 +30,16 @@ loop-k-init c =
       λ v h. c.empty-setting.ensures v,
     )
 
-pub nonzero-rem-left : goal.nonzero-rem-left
-nonzero-rem-left c = item_size c.args.sizes.now c.args.scope.now c.args.cell c.variables-variables.result.now c.variables-variables.ensures c.requires c.loop-k.k c.size-size.result c.loop-k-test.true c.loop-k.auto.k c.size-size.ensures
+pub nonzero_rem-left : goal.nonzero_rem-left
+nonzero_rem-left c = item_size c.args.sizes.now c.args.scope.now c.args.cell c.variables-variables.result.now c.variables-variables.ensures c.requires c.loop-k.k c.size-size.result c.loop-k-test.true c.loop-k.auto.k c.size-size.ensures
 
-pub overflow-cast-left : goal.overflow-cast-left
-overflow-cast-left c =
+pub overflow_cast-left : goal.overflow_cast-left
+overflow_cast-left c =
     let some = item_size c.args.sizes.now c.args.scope.now c.args.cell c.variables-variables.result.now c.variables-variables.ensures c.requires c.loop-k.k c.size-size.result c.loop-k-test.true c.loop-k.auto.k c.size-size.ensures in
     Fits-below {n = 255} tt (omega (arith, mod-lt c.loop-k.left some, c.size-size.type-inv))
 
-pub nonzero-div-left : goal.nonzero-div-left
-nonzero-div-left c = item_size c.args.sizes.now c.args.scope.now c.args.cell c.variables-variables.result.now c.variables-variables.ensures c.requires c.loop-k.k c.size-size.result c.loop-k-test.true c.loop-k.auto.k c.size-size.ensures
+pub nonzero_div-left : goal.nonzero_div-left
+nonzero_div-left c = item_size c.args.sizes.now c.args.scope.now c.args.cell c.variables-variables.result.now c.variables-variables.ensures c.requires c.loop-k.k c.size-size.result c.loop-k-test.true c.loop-k.auto.k c.size-size.ensures
 
 pub loop-k-preserved : goal.loop-k-preserved
 loop-k-preserved c =

@@ -9,8 +9,8 @@ pub returns-then-v-variable : goal.returns-then-v-variable
 returns-then-v-variable c =
     place_here (order_of c.args.order.now) c.variables-v-items.result.now c.variables-v-items.ensures c.loop-v.v-index c.loop-v.at c.args.variable _ c.loop-v.invariant.1 c.loop-v-test.true c.if-v-variable.true
 
-pub overflow-add-at : goal.overflow-add-at
-overflow-add-at c =
+pub overflow_add-at : goal.overflow_add-at
+overflow_add-at c =
     let o = c.args.order.now in
     Fits-below {n = 255} tt (omega (arith, ap length c.variables-v-items.ensures, length-take o.len o.variables, c.loop-v.invariant.0))
 

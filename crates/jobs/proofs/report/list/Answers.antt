@@ -4,8 +4,8 @@ use Rattle.variables.specs.Records.{values_of}
 use Rattle.jobs.proofs.Reporting.{listed_more, listed_all}
 use Rattle.jobs.proofs.report.list.Goals as goal
 
-pub overflow-add-variable : goal.overflow-add-variable
-overflow-add-variable c = omega (arith, c.loop-place.invariant.0, c.requires.few, c.loop-place-test.true)
+pub overflow_add-variable : goal.overflow_add-variable
+overflow_add-variable c = omega (arith, c.loop-place.invariant.0, c.requires.few, c.loop-place-test.true)
 
 pub loop-place-preserved : goal.loop-place-preserved
 loop-place-preserved c =

@@ -8,8 +8,8 @@ use Rattle.orders.proofs.cliques.scopes.Goals as goal
 pub loop-k-preserved : goal.loop-k-preserved
 loop-k-preserved c =
     let fs = (outline c.args.shape.now).functions in
-    let put = ap (map vec_items) c.in-ok-push.ensures.items ∙ map_push vec_items (vec_items c.loop-k.all) c.in-ok-scope.field-0 in
-    put ∙ ap₂ (λ (x : List (List ℕ)) (y : List ℕ). x ++ y ∷ []) c.loop-k.invariant c.in-ok-scope.ensures ∙ sym (scopes_more fs c.loop-k.k (omega arith))
+    let put = ap (map vec_items) c.in_ok-push.ensures.items ∙ map_push vec_items (vec_items c.loop-k.all) c.in_ok-scope.field-0 in
+    put ∙ ap₂ (λ (x : List (List ℕ)) (y : List ℕ). x ++ y ∷ []) c.loop-k.invariant c.in_ok-scope.ensures ∙ sym (scopes_more fs c.loop-k.k (omega arith))
 
 pub returns : goal.returns
 returns c = let fs = (outline c.args.shape.now).functions in c.loop-k.invariant ∙ ap scopes (take_all c.loop-k.k fs (omega arith))

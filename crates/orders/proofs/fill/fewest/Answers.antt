@@ -8,24 +8,24 @@ use Rattle.orders.proofs.fill.fewest.Goals.{then-pairs-least, else-pairs-least}
 pub loop-v-init : goal.loop-v-init
 loop-v-init c =
     let cs = map vec_items c.args.cliques.now in
-    (c.in-ok-least.ensures, ap (λ (b : ℕ). fewest_from cs c.args.left.now b c.args.left.now) c.first-best.ensures)
+    (c.in_ok-least.ensures, ap (λ (b : ℕ). fewest_from cs c.args.left.now b c.args.left.now) c.first-best.ensures)
 
 pub loop-v-preserved : goal.loop-v-preserved
 loop-v-preserved c =
     let cs = map vec_items c.args.cliques.now in
     let left = c.args.left.now in
     let i = c.loop-v.v-index in
-    let pairs = c.in-ok-pairs.ensures in
+    let pairs = c.in_ok-pairs.ensures in
     elim c.if-pairs-least.branch [
       | then-pairs-least w ↦ (
         w.least-is ∙ pairs ∙ ap (fill cs left) (sym w.best-is),
         ap (λ (b : ℕ). fewest_from cs left b (drop (i + 1) left)) w.best-is
-            ∙ fewest_less cs left i c.loop-v.best c.in-ok-pairs.pairs c.loop-v.least _ (omega arith) pairs c.loop-v.invariant.0 c.loop-v.invariant.1 w.if-pairs-least.true,
+            ∙ fewest_less cs left i c.loop-v.best c.in_ok-pairs.pairs c.loop-v.least _ (omega arith) pairs c.loop-v.invariant.0 c.loop-v.invariant.1 w.if-pairs-least.true,
       )
       | else-pairs-least w ↦ (
         w.least-is ∙ c.loop-v.invariant.0 ∙ ap (fill cs left) (sym w.best-is),
         ap (λ (b : ℕ). fewest_from cs left b (drop (i + 1) left)) w.best-is
-            ∙ fewest_more cs left i c.loop-v.best c.in-ok-pairs.pairs c.loop-v.least _ (omega arith) pairs c.loop-v.invariant.0 c.loop-v.invariant.1 w.if-pairs-least.false,
+            ∙ fewest_more cs left i c.loop-v.best c.in_ok-pairs.pairs c.loop-v.least _ (omega arith) pairs c.loop-v.invariant.0 c.loop-v.invariant.1 w.if-pairs-least.false,
       )
     ]
 

@@ -16,31 +16,31 @@ fewest-requires c = let long = ap length c.as-slice-in-loop-turn.ensures.value i
 pub loop-turn-init : goal.loop-turn-init
 loop-turn-init c =
     let n : ℕ = length (outline c.args.shape.now).sizes in
-    let natural = c.in-ok-left.ensures.0 in
+    let natural = c.in_ok-left.ensures.0 in
     let few : n ≤ 32 = simp length-take (omega (arith, c.args.shape.now.sizes.few)) in
     let long = ap length natural in (
-      eliminated_none n _ _ _ _ (vec_items c.new-gone.result) c.new-gone.ensures.items c.in-ok-cliques.ensures natural,
+      eliminated_none n _ _ _ _ (vec_items c.new-gone.result) c.new-gone.ensures.items c.in_ok-cliques.ensures natural,
       omega (arith, few, long, numbered_length n),
     )
 
 pub loop-turn-preserved : goal.loop-turn-preserved
 loop-turn-preserved c =
     let n : ℕ = length (outline c.args.shape.now).sizes in
-    let v : ℕ = c.in-ok-v.v in
+    let v : ℕ = c.in_ok-v.v in
     let cliques : List (List ℕ) = map vec_items (vec_items c.loop-turn.cliques) in
     let left : List ℕ = vec_items c.loop-turn.left in
     let next : v ≡ fewest cliques left =
-    c.in-ok-v.ensures ∙ ap₂ (λ (xs : List (Vec ℕ Global)) (l : List ℕ). fewest (map vec_items xs) l) c.as-slice.ensures.value c.as-slice-in-loop-turn.ensures.value in
-    let near : vec_items c.in-ok-near.near ≡ neighbours cliques left v =
-    c.in-ok-near.ensures
+    c.in_ok-v.ensures ∙ ap₂ (λ (xs : List (Vec ℕ Global)) (l : List ℕ). fewest (map vec_items xs) l) c.as-slice.ensures.value c.as-slice-in-loop-turn.ensures.value in
+    let near : vec_items c.in_ok-near.near ≡ neighbours cliques left v =
+    c.in_ok-near.ensures
     ∙ ap₂ (λ (xs : List (Vec ℕ Global)) (l : List ℕ). neighbours (map vec_items xs) l v) c.as-slice-in-loop-turn-2.ensures.value c.as-slice-in-loop-turn-3.ensures.value in
     let more : map vec_items (vec_items c.push.new.self) ≡ cliques ++ neighbours cliques left v ∷ [] =
-    ap (map vec_items) c.in-ok-push.ensures.items ∙ map_push vec_items (vec_items c.loop-turn.cliques) c.in-ok-near.near ∙ ap (λ (x : List ℕ). cliques ++ x ∷ []) near in
-    let rest : vec_items c.in-ok-left-2.left ≡ others left v = c.in-ok-left-2.ensures ∙ ap (λ (l : List ℕ). others l v) c.as-slice-in-loop-turn-4.ensures.value in
+    ap (map vec_items) c.in_ok-push.ensures.items ∙ map_push vec_items (vec_items c.loop-turn.cliques) c.in_ok-near.near ∙ ap (λ (x : List ℕ). cliques ++ x ∷ []) near in
+    let rest : vec_items c.in_ok-left-2.left ≡ others left v = c.in_ok-left-2.ensures ∙ ap (λ (l : List ℕ). others l v) c.as-slice-in-loop-turn-4.ensures.value in
     let sizes : length (sizes_of c.sizes.result) ≡ n = ap (λ (s : Sizes). length (sizes_of s)) c.sizes.ensures in
     let fewer = others_fewer left v in
     let long = ap length rest in (
-      eliminated_turn n c.loop-turn.turn v cliques _ left _ (vec_items c.loop-turn.gone) _ _ (omega (arith, sizes, c.len-turn-end.ensures)) next more rest c.in-ok-push-2.ensures.items c.loop-turn.invariant.0,
+      eliminated_turn n c.loop-turn.turn v cliques _ left _ (vec_items c.loop-turn.gone) _ _ (omega (arith, sizes, c.len-turn-end.ensures)) next more rest c.in_ok-push-2.ensures.items c.loop-turn.invariant.0,
       omega (arith, fewer, long, c.loop-turn.invariant.1),
     )
 

@@ -8,7 +8,7 @@ use Rattle.orders.proofs.Eliminations.{numbered_order}
 use Rattle.orders.proofs.natural.natural.Goals as goal
 
 pub loop-v-preserved : goal.loop-v-preserved
-loop-v-preserved c = c.in-ok-push.ensures.items ∙ ap (λ us. us ++ c.loop-v.v ∷ []) c.loop-v.invariant ∙ ap numbered (sym (add-one c.loop-v.v))
+loop-v-preserved c = c.in_ok-push.ensures.items ∙ ap (λ us. us ++ c.loop-v.v ∷ []) c.loop-v.invariant ∙ ap numbered (sym (add-one c.loop-v.v))
 
 pub returns : goal.returns
 returns c =

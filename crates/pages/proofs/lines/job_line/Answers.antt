@@ -9,6 +9,6 @@ returns c =
     let s = c.sizes.ensures in
     let u = c.used-used.ensures in
     three_parts (vec_items c.args.page.now) (vec_items c.text.new.page) (vec_items c.extend-from-slice.new.self) _ _ (codes "job ") c.args.name.now
-    c.in-ok-text.ensures refl
-    c.in-ok-extend-from-slice.ensures.items refl
-    (vec_items c.text-2.new.page) _ _ c.in-ok-text-2.ensures (c.as-str.ensures.value ∙ c.in-ok-rest.ensures.ok ∙ (cc))
+    c.in_ok-text.ensures refl
+    c.in_ok-extend-from-slice.ensures.items refl
+    (vec_items c.text-2.new.page) _ _ c.in_ok-text-2.ensures (c.as-str.ensures.value ∙ c.in_ok-rest.ensures.ok ∙ (cc))

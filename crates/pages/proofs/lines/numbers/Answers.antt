@@ -9,7 +9,7 @@ loop-k-preserved c =
     let list = c.args.list.now in
     let page = vec_items c.loop-k.page in
     let step = at_drop_more (spaced k) list k 0 (omega arith) in
-    let put = c.in-ok-listed.ensures in
+    let put = c.in_ok-listed.ensures in
     ap (λ p. p ++ spaced (k + 1) (drop (k + 1) list)) put ∙ append_assoc page (parted k (get_or list k 0)) (spaced (k + 1) (drop (k + 1) list))
     ∙ ap (λ rest. page ++ rest) (sym step) ∙ c.loop-k.invariant
 

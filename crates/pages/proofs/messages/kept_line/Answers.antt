@@ -19,4 +19,4 @@ returns c =
     let to = c.min-end.ensures in
     kept_put sizes c.args.area.now c.args.k (vec_items c.args.page.now) (vec_items c.message-line.new.page) (nth (messages c.args.source.now) c.args.k)
     (placed_of c.in-Some.message) _ _ c.min-start.result c.min-end.result (sym c.message.ensures ∙ ap (option_map placed_of) c.in-Some.is) (c.variables.ensures ∙ ap scope_of scope) c.origin.ensures
-    (omega arith) (omega arith) c.in-ok-message-line.ensures
+    (omega arith) (omega arith) c.in_ok-message-line.ensures

@@ -8,29 +8,29 @@ use Rattle.pages.specs.Pages.{cost_page}
 use Rattle.pages.proofs.Pricings.{outcome_new, loading_name, full_there, page_there, title_is, given_priced}
 use Rattle.pages.proofs.pricing.priced_in.Goals as goal
 
-pub returns-in-err-upper : goal.returns-in-err-upper
-returns-in-err-upper c =
-    let p = err_from_is_err_and c.from-residual.result c.from-residual.ensures.1 in
+pub returns-in_err-upper : goal.returns-in_err-upper
+returns-in_err-upper c =
+    let p = err_from_is_err_and c.from_residual.result c.from_residual.ensures.1 in
     let whole = outcome_new c.new-job.result _ c.args.text.now (length c.args.area.now) c.new-job.ensures in
-    rw (p.1, p.2) (sym whole ∙ c.in-err-upper.ensures.0)
+    rw (p.1, p.2) (sym whole ∙ c.in_err-upper.ensures.0)
 
-pub returns-in-err-setting : goal.returns-in-err-setting
-returns-in-err-setting c =
-    let p = err_from_is_err_and c.from-residual-in-err-setting.result c.from-residual-in-err-setting.ensures.1 in
-    let loaded = c.in-ok-upper.ensures in
+pub returns-in_err-setting : goal.returns-in_err-setting
+returns-in_err-setting c =
+    let p = err_from_is_err_and c.from_residual-in_err-setting.result c.from_residual-in_err-setting.ensures.1 in
+    let loaded = c.in_ok-upper.ensures in
     let cells = length c.args.area.now in
     let whole = outcome_new c.new-job.result _ c.args.text.now cells c.new-job.ensures in
     let same = c.shape-shape.ensures ∙ ap (λ (x : Standing). x.outline) loaded.2.stands.standing_is in
-    rw (p.1, p.2) (given_priced (loading c.args.text.now cells) cells loaded.0 (outline c.shape-shape.result) c.args.values.now _ (sym whole ∙ loaded.1) same c.in-err-setting.ensures)
+    rw (p.1, p.2) (given_priced (loading c.args.text.now cells) cells loaded.0 (outline c.shape-shape.result) c.args.values.now _ (sym whole ∙ loaded.1) same c.in_err-setting.ensures)
 
-pub returns-in-err-page : goal.returns-in-err-page
-returns-in-err-page c =
-    let p = err_from_is_err_and c.from-residual-in-err-page.result c.from-residual-in-err-page.ensures.1 in
+pub returns-in_err-page : goal.returns-in_err-page
+returns-in_err-page c =
+    let p = err_from_is_err_and c.from_residual-in_err-page.result c.from_residual-in_err-page.ensures.1 in
     rw (p.1, p.2) tt
 
 pub returns : goal.returns
 returns c =
-    let loaded = c.in-ok-upper.ensures in
+    let loaded = c.in_ok-upper.ensures in
     let d = loaded.0 in
     let o = outline c.shape-shape.result in
     let cells = length c.args.area.now in
@@ -38,13 +38,13 @@ returns c =
     let is = sym (outcome_new c.new-job.result _ c.args.text.now cells c.new-job.ensures) ∙ loaded.1 in
     let same = c.shape-shape.ensures ∙ ap (λ (x : Standing). x.outline) loaded.2.stands.standing_is in
     let there = ap (λ o. problem o area) c.shape-shape.ensures ∙ loaded.2.problem_is in
-    let given = c.in-ok-setting.ensures in
-    let page = c.in-ok-page.ensures in
+    let given = c.in_ok-setting.ensures in
+    let page = c.in_ok-page.ensures in
     let title = ap (λ x. x.now) c.unwrap-or-title.ensures ∙ title_is c.name.result _ d.name (c.name.ensures ∙ loading_name c.args.text.now cells d is) in (
       d,
       is,
       full_there d o area c.args.values.now same there given.0 c.shape-shape.result.scoped,
-      page_there d o area c.args.values.now same there given.0 c.shape-shape.result.scoped c.unwrap-or-title.result.now (values_of c.in-ok-setting.setting) page.0 c.in-ok-upper.upper
-          (vec_items c.in-ok-page.page) title given.1 page.1 loaded.2.upper_is page.2
+      page_there d o area c.args.values.now same there given.0 c.shape-shape.result.scoped c.unwrap-or-title.result.now (values_of c.in_ok-setting.setting) page.0 c.in_ok-upper.upper
+          (vec_items c.in_ok-page.page) title given.1 page.1 loaded.2.upper_is page.2
           ∙ ap (λ k. cost_page d k c.args.values.now) loaded.2.long,
     )

@@ -5,15 +5,15 @@ use Rattle.replay.proofs.Runs.{chain_next, chain_all}
 use Rattle.replay.proofs.Keeping.{promised}
 use Rattle.replay.proofs.play.replay.Goals as goal
 
-pub returns-in-err-push : goal.returns-in-err-push
-returns-in-err-push g c =
-    let p = err_from_is_err_and c.from-residual-in-err-push.result c.from-residual-in-err-push.ensures.1 in
+pub returns-in_err-push : goal.returns-in_err-push
+returns-in_err-push g c =
+    let p = err_from_is_err_and c.from_residual-in_err-push.result c.from_residual-in_err-push.ensures.1 in
     rw p.1 (record { ran = tt; truthful = tt })
 
 pub loop-call-preserved : goal.loop-call-preserved
 loop-call-preserved g c =
     chain_next g.C.Cost.structure g.S.FloorSource.rules _ _ _ c.args.calls.now c.loop-call.call-index _ _ _ _
-    c.loop-call-test.true c.call-item.is c.in-ok-push.ensures.items c.loop-call.invariant c.perform-answer.ensures
+    c.loop-call-test.true c.call-item.is c.in_ok-push.ensures.items c.loop-call.invariant c.perform-answer.ensures
 
 pub returns : goal.returns
 returns g c =

@@ -13,12 +13,12 @@ loop-next-preserved c =
     settles_again o s c.args.prefix.now c.args.first c.loop-next.prefix c.loop-next.next c.loop-next.invariant c.pop.new.self c.in-Some.value c.saturating-add-next.result
     (c.loop-next-test.true ∙ c.size-at.ensures ∙ ap (size_at (sizes_of s) (order_of o)) c.len.ensures) c.in-Some.ensures.after c.saturating-add-next.ensures
 
-pub returns-in-default : goal.returns-in-default
-returns-in-default c =
+pub returns-in_default : goal.returns-in_default
+returns-in_default c =
     let o = c.args.order.now in
     let s = c.args.sizes.now in
-    subst (λ (p : Prefix). Settles o s c.args.prefix.now c.args.first p c.loop-next.next) (sym c.in-default.ensures.after)
-    (settles_all o s c.args.prefix.now c.args.first c.loop-next.prefix c.loop-next.next c.loop-next.invariant c.in-default.ensures.some)
+    subst (λ (p : Prefix). Settles o s c.args.prefix.now c.args.first p c.loop-next.next) (sym c.in_default.ensures.after)
+    (settles_all o s c.args.prefix.now c.args.first c.loop-next.prefix c.loop-next.next c.loop-next.invariant c.in_default.ensures.some)
 
 pub returns-after-loop-next : goal.returns-after-loop-next
 returns-after-loop-next c =

@@ -8,19 +8,19 @@ use Rattle.wcsp.proofs.Rulings.{size_refused}
 use Rattle.std.proofs.lemmas.Result.{err_from_is_err_and}
 use Rattle.wcsp.proofs.domains.size.Goals as goal
 
-pub returns-in-err-number : goal.returns-in-err-number
-returns-in-err-number c =
-    let p = err_from_is_err_and c.from-residual.result c.from-residual.ensures.1 in
+pub returns-in_err-number : goal.returns-in_err-number
+returns-in_err-number c =
+    let p = err_from_is_err_and c.from_residual.result c.from_residual.ensures.1 in
     let s = c.args.reader.now in
-    record { kept = c.number.ensures.kept; read = rw (p.1, p.2) (rule_faulty (length (text_of s)) (size_rule c.args.largest) (left_of s) c.in-err-number.field-0.0 c.in-err-number.ensures.read) }
+    record { kept = c.number.ensures.kept; read = rw (p.1, p.2) (rule_faulty (length (text_of s)) (size_rule c.args.largest) (left_of s) c.in_err-number.field-0.0 c.in_err-number.ensures.read) }
 
 pub returns-in-Err : goal.returns-in-Err
 returns-in-Err c =
     let s = c.args.reader.now in
-    let n = c.in-ok-number.number in
+    let n = c.in_ok-number.number in
     let why = c.in-Err.why in
     let refused = size_refused (sizes_of c.args.sizes.now) n.value c.args.largest why c.requires c.in-Err.ensures.0 in
     record {
       kept = c.number.ensures.kept;
-      read = rule_broken (length (text_of s)) (size_rule c.args.largest) (left_of s) n (left_of c.number.new.self) (Rule why) c.in-ok-number.ensures.read refused ∙ ap Err (sym c.breaks-in-Err.ensures);
+      read = rule_broken (length (text_of s)) (size_rule c.args.largest) (left_of s) n (left_of c.number.new.self) (Rule why) c.in_ok-number.ensures.read refused ∙ ap Err (sym c.breaks-in-Err.ensures);
     }

@@ -33,16 +33,16 @@ entry-requires c =
     let entered = ap (λ (z : Outline). length z.functions) l.invariant.1.2 in
     record { few = omega (arith, entered_length o l.invariant.1.0); small = omega arith }
 
-pub returns-in-err-entry : goal.returns-in-err-entry
-returns-in-err-entry c =
-    let p = err_from_is_err_and c.from-residual.result c.from-residual.ensures.1 in
+pub returns-in_err-entry : goal.returns-in_err-entry
+returns-in_err-entry c =
+    let p = err_from_is_err_and c.from_residual.result c.from_residual.ensures.1 in
     let l = c.loop-k in
     let area = c.args.area.now in
     let broken = entries_fault (text_of l.reader) (text_of c.args.reader.now) l.area area (outline l.shape) (outline c.args.shape.now) l.invariant.1.0 c.args.count l.-k (left_of l.reader)
-    l.invariant.0 l.auto.area l.invariant.1.2 (omega arith) c.in-err-entry.field-0.0 c.in-err-entry.ensures.read in
+    l.invariant.0 l.auto.area l.invariant.1.2 (omega arith) c.in_err-entry.field-0.0 c.in_err-entry.ensures.read in
     record {
-      kept = c.in-err-entry.ensures.kept ∙ l.invariant.0;
-      checked = λ e. c.in-err-entry.ensures.checked e ∙ pass_checked c.args.pass area l.area _ l.invariant.1.4 e;
+      kept = c.in_err-entry.ensures.kept ∙ l.invariant.0;
+      checked = λ e. c.in_err-entry.ensures.checked e ∙ pass_checked c.args.pass area l.area _ l.invariant.1.4 e;
       read = rw (p.1, p.2) (sym l.invariant.1.1 ∙ broken);
     }
 
@@ -58,10 +58,10 @@ loop-k-preserved c =
     let done = l.invariant.1.0 in
     let words = left_of l.reader in
     let count = c.args.count in
-    let got = c.in-ok-entry.ensures.read in
+    let got = c.in_ok-entry.ensures.read in
     let more = entries_more text text₀ l.area area o o₀ done count l.-k words l.invariant.0 l.auto.area l.invariant.1.2 (omega arith) o' got.0 (left_of c.entry.new.reader) got.1 got.2.0 in
     let behind = laid_behind text text₀ l.area area o o₀ done count l.-k words l.invariant.0 l.auto.area l.invariant.1.2 (omega arith) got.0 c.requires.used in (
-      c.in-ok-entry.ensures.kept ∙ l.invariant.0,
+      c.in_ok-entry.ensures.kept ∙ l.invariant.0,
       (
         done ++ got.0 ∷ [],
         sym more ∙ l.invariant.1.1,

@@ -11,11 +11,11 @@ use Rattle.words.proofs.Rulings.{rule_taken, rule_faulty}
 use Rattle.std.proofs.lemmas.Result.{err_from_is_err_and}
 use Rattle.wcsp.proofs.entry.usual.Goals as goal
 
-pub returns-in-err-number : goal.returns-in-err-number
-returns-in-err-number c =
-    let p = err_from_is_err_and c.from-residual.result c.from-residual.ensures.1 in
+pub returns-in_err-number : goal.returns-in_err-number
+returns-in_err-number c =
+    let p = err_from_is_err_and c.from_residual.result c.from_residual.ensures.1 in
     let s = c.args.reader.now in
-    record { kept = c.number.ensures.kept; read = rw (p.1, p.2) (rule_faulty (length (text_of s)) (room_rule c.args.room (outline c.args.shape.now).used (cells (outline c.args.shape.now).sizes (scope_of c.args.scope.now))) (left_of s) c.in-err-number.field-0.0 c.in-err-number.ensures.read) }
+    record { kept = c.number.ensures.kept; read = rw (p.1, p.2) (rule_faulty (length (text_of s)) (room_rule c.args.room (outline c.args.shape.now).used (cells (outline c.args.shape.now).sizes (scope_of c.args.scope.now))) (left_of s) c.in_err-number.field-0.0 c.in_err-number.ensures.read) }
 
 pub returns-in-Ok : goal.returns-in-Ok
 returns-in-Ok c =
@@ -23,7 +23,7 @@ returns-in-Ok c =
     let o = outline c.args.shape.now in
     let scope = scope_of c.args.scope.now in
     let room = c.args.room in
-    let n = c.in-ok-number.number in
+    let n = c.in_ok-number.number in
     let got = c.in-Ok.ensures in
     let rows = ap (λ vs. first_of (enter_rows o.sizes (length o.functions) o.used (min room 16384) vs)) (sym c.variables.ensures) ∙ got.0 in
     let taken = room_taken o.sizes scope (length o.functions) o.used room n.value c.requires.small rows in
@@ -31,7 +31,7 @@ returns-in-Ok c =
       kept = c.number.ensures.kept;
       read = (
         n.value,
-        rule_taken (length (text_of s)) (room_rule room o.used (cells o.sizes scope)) (left_of s) n (left_of c.number.new.self) c.in-ok-number.ensures.read taken,
+        rule_taken (length (text_of s)) (room_rule room o.used (cells o.sizes scope)) (left_of s) n (left_of c.number.new.self) c.in_ok-number.ensures.read taken,
         (refl, got.1.1 ∙ ap (entered o) c.variables.ensures),
       );
     }

@@ -14,19 +14,19 @@ use Rattle.wcsp.proofs.listing.listed.Goals as goal
 abbrev one : List ℕ → List ℕ → List ℕ → List Listed → List Word → Reading Listed
 one text sizes scope done ws = listing (length text) sizes scope ws
 
-pub returns-in-err-listing : goal.returns-in-err-listing
-returns-in-err-listing c =
-    let p = err_from_is_err_and c.from-residual.result c.from-residual.ensures.1 in
+pub returns-in_err-listing : goal.returns-in_err-listing
+returns-in_err-listing c =
+    let p = err_from_is_err_and c.from_residual.result c.from_residual.ensures.1 in
     let l = c.loop-k in
     let text = text_of c.args.reader.now in
     let sizes = sizes_of c.args.sizes.now in
     let scope = scope_of c.args.scope.now in
     let words = left_of l.reader in
-    let read = ap (λ t. one t sizes scope [] words) (sym l.invariant.0) ∙ c.in-err-listing.ensures.read in
-    let broken = one_fault (listed_from (length text) sizes scope) (one text sizes scope) (λ _ _ _. refl) c.args.count l.-k l.invariant.1.0 words c.in-err-listing.field-0.0 (omega arith) read in
+    let read = ap (λ t. one t sizes scope [] words) (sym l.invariant.0) ∙ c.in_err-listing.ensures.read in
+    let broken = one_fault (listed_from (length text) sizes scope) (one text sizes scope) (λ _ _ _. refl) c.args.count l.-k l.invariant.1.0 words c.in_err-listing.field-0.0 (omega arith) read in
     record {
-      kept = c.in-err-listing.ensures.kept ∙ l.invariant.0;
-      checked = λ e. c.in-err-listing.ensures.checked e ∙ pass_checked c.args.pass c.args.table.now l.table _ l.invariant.1.2 e;
+      kept = c.in_err-listing.ensures.kept ∙ l.invariant.0;
+      checked = λ e. c.in_err-listing.ensures.checked e ∙ pass_checked c.args.pass c.args.table.now l.table _ l.invariant.1.2 e;
       read = rw (p.1, p.2) (sym l.invariant.1.1 ∙ broken);
     }
 
@@ -39,11 +39,11 @@ loop-k-preserved c =
     let table = c.args.table.now in
     let words = left_of l.reader in
     let done = l.invariant.1.0 in
-    let got = c.in-ok-listing.ensures.read in
+    let got = c.in_ok-listing.ensures.read in
     let left = left_of c.listing.new.reader in
     let read = ap (λ t. one t sizes scope [] words) (sym l.invariant.0) ∙ got.1 in
     let more = one_more (listed_from (length text) sizes scope) (one text sizes scope) (λ _ _ _. refl) c.args.count l.-k done words got.0 left (omega arith) read in (
-      c.in-ok-listing.ensures.kept ∙ l.invariant.0,
+      c.in_ok-listing.ensures.kept ∙ l.invariant.0,
       (
         done ++ got.0 ∷ [],
         sym more ∙ l.invariant.1.1,

@@ -15,7 +15,7 @@ returns c =
     let area₁ = c.read.new.area in
     let area₂ = c.read-2.new.area in
     let unchanged : area₁ ≡ area = c.read.ensures.checked refl in
-    let got = c.in-ok-loaded.ensures.read in
+    let got = c.in_ok-loaded.ensures.read in
     let d = got.0 in
     let room : 2 ≤ length area₁ = omega arith in
     let shape = got.2.1 in
@@ -32,6 +32,6 @@ returns c =
         long = omega arith;
         inside = omega (arith, document_inside (length text) (length area₁) (words text) d room got.1);
         before = before_same d area₁ area₂ room got.2.2 ∙ ap (λ a. take 2 a) unchanged;
-        behind = ap (λ n. drop n area₂) used ∙ behind_same d area₁ area₂ room got.2.2 ∙ ap (λ n. drop n area₁) (sym used) ∙ ap (drop (outline c.in-ok-loaded.loaded.shape).used) unchanged;
+        behind = ap (λ n. drop n area₂) used ∙ behind_same d area₁ area₂ room got.2.2 ∙ ap (λ n. drop n area₁) (sym used) ∙ ap (drop (outline c.in_ok-loaded.loaded.shape).used) unchanged;
       },
     )

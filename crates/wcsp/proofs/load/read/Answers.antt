@@ -15,18 +15,18 @@ returns c =
     let s₃ = c.entries.new.reader in
     let area = c.args.area.now in
     let pass = c.args.pass in
-    let h = c.in-ok-heading.ensures.read in
-    let z = c.in-ok-sizes.ensures.read in
-    let e = c.in-ok-entries.ensures.read in
-    let sizes = sizes_of c.in-ok-sizes.sizes in
+    let h = c.in_ok-heading.ensures.read in
+    let z = c.in_ok-sizes.ensures.read in
+    let e = c.in_ok-entries.ensures.read in
+    let sizes = sizes_of c.in_ok-sizes.sizes in
     let o = outline c.sized-shape.result in
     let opens = c.sized-shape.ensures in
     record {
       checked = c.entries.ensures.checked;
       read = (
         _,
-        read_document c.args.text.now (length area) s s₁ s₂ s₃ c.in-ok-heading.heading sizes o (outline c.entries.new.shape) c.new-reader.ensures.whole c.new-reader.ensures.start c.read-heading.ensures.kept c.sizes.ensures.kept
-            h.0 h.1 h.2 z opens e.0 e.1 c.in-ok-end.ensures,
+        read_document c.args.text.now (length area) s s₁ s₂ s₃ c.in_ok-heading.heading sizes o (outline c.entries.new.shape) c.new-reader.ensures.whole c.new-reader.ensures.start c.read-heading.ensures.kept c.sizes.ensures.kept
+            h.0 h.1 h.2 z opens e.0 e.1 c.in_ok-end.ensures,
         (
           h.2.upper,
           e.2.0 ∙ ap (λ o. entered_all o e.0) opens,

@@ -14,9 +14,9 @@ use Rattle.wcsp.proofs.tuples.tuple.Goals as goal
 abbrev one : List ℕ → ℕ → List Word → Reading ℕ
 one text size ws = number_by (length text) (value_rule size) ws
 
-pub returns-in-err-value : goal.returns-in-err-value
-returns-in-err-value c =
-    let p = err_from_is_err_and c.from-residual.result c.from-residual.ensures.1 in
+pub returns-in_err-value : goal.returns-in_err-value
+returns-in_err-value c =
+    let p = err_from_is_err_and c.from_residual.result c.from_residual.ensures.1 in
     let l = c.loop-v in
     let text = text_of c.args.reader.now in
     let sizes = sizes_of c.args.sizes.now in
@@ -24,9 +24,9 @@ returns-in-err-value c =
     let long = ap length c.variables-variables.ensures in
     let size = c.size.ensures ∙ ap (λ us. get_or sizes (get_or us l.v-index 0) 0) c.variables-variables.ensures in
     let words = left_of l.reader in
-    let read = ap (λ t. one t (get_or sizes (get_or vs l.v-index 0) 0) words) (sym l.invariant.0) ∙ ap (λ z. one (text_of l.reader) z words) (sym size) ∙ sym c.in-err-value.ensures.read in
-    let broken = value_fault (length text) sizes vs l.v-index l.invariant.1.0 words (omega arith) c.in-err-value.field-0.0 read in
-    record { kept = c.in-err-value.ensures.kept ∙ l.invariant.0; read = rw (p.1, p.2) (sym l.invariant.1.1 ∙ broken) }
+    let read = ap (λ t. one t (get_or sizes (get_or vs l.v-index 0) 0) words) (sym l.invariant.0) ∙ ap (λ z. one (text_of l.reader) z words) (sym size) ∙ sym c.in_err-value.ensures.read in
+    let broken = value_fault (length text) sizes vs l.v-index l.invariant.1.0 words (omega arith) c.in_err-value.field-0.0 read in
+    record { kept = c.in_err-value.ensures.kept ∙ l.invariant.0; read = rw (p.1, p.2) (sym l.invariant.1.1 ∙ broken) }
 
 pub loop-v-preserved : goal.loop-v-preserved
 loop-v-preserved c =
@@ -42,12 +42,12 @@ loop-v-preserved c =
     let var = ap (λ us. get_or us i 0) c.variables-variables.ensures in
     let words = left_of l.reader in
     let left = left_of c.value.new.reader in
-    let x = c.in-ok-value.value in
-    let read = ap (λ t. one t (get_or sizes (get_or vs i 0) 0) words) (sym l.invariant.0) ∙ ap (λ z. one (text_of l.reader) z words) (sym size) ∙ sym c.in-ok-value.ensures.read in
+    let x = c.in_ok-value.value in
+    let read = ap (λ t. one t (get_or sizes (get_or vs i 0) 0) words) (sym l.invariant.0) ∙ ap (λ z. one (text_of l.reader) z words) (sym size) ∙ sym c.in_ok-value.ensures.read in
     let good = value_below (length text) sizes vs i done words here x left read in
     let slot = variable_slot c.args.scope.now _ c.variables-variables.ensures i c.loop-v-test.true in
     let room : get_or vs i 0 < length (values_of l.setting) = omega arith in (
-      c.in-ok-value.ensures.kept ∙ l.invariant.0,
+      c.in_ok-value.ensures.kept ∙ l.invariant.0,
       (
         done ++ x ∷ [],
         sym (value_more (length text) sizes vs i done words here x left read) ∙ l.invariant.1.1,

@@ -12,11 +12,11 @@ use Rattle.buckets.proofs.plain.MiniBucket.message.Goals as goal
 there : (s : MiniBucket) (k n : ℕ) → n ≡ length (messages s) → k < n → s.entered + k < s.made.records.len
 there s k n e h = omega (arith, length-drop s.entered (all_listed s.made.records), listed_length s.made.records)
 
-pub overflow-add-result : goal.overflow-add-result
-overflow-add-result c = Fits-below {n = 384} tt (omega (arith, there c.args.self.now c.args.number c.message-count.result c.message-count.ensures c.if-number-message-count.true, c.args.self.now.made.records.few))
+pub overflow_add-result : goal.overflow_add-result
+overflow_add-result c = Fits-below {n = 384} tt (omega (arith, there c.args.self.now c.args.number c.message-count.result c.message-count.ensures c.if-number-message-count.true, c.args.self.now.made.records.few))
 
-pub offset-bounds-self-self : goal.offset-bounds-self-self
-offset-bounds-self-self c = Fits-below {n = 6144} tt (omega (arith, there c.args.self.now c.args.number c.message-count.result c.message-count.ensures c.if-number-message-count.true, c.args.self.now.made.records.few))
+pub offset_bounds-self-self : goal.offset_bounds-self-self
+offset_bounds-self-self c = Fits-below {n = 6144} tt (omega (arith, there c.args.self.now c.args.number c.message-count.result c.message-count.ensures c.if-number-message-count.true, c.args.self.now.made.records.few))
 
 pub listed : goal.listed
 listed c = omega (arith, there c.args.self.now c.args.number c.message-count.result c.message-count.ensures c.if-number-message-count.true, c.args.self.now.made.records.few, c.args.self.now.made.records.long)

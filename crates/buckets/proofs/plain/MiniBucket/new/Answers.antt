@@ -3,8 +3,8 @@ use Rattle.std.proofs.lemmas.List.{length-replicate}
 use Rattle.variables.proofs.Slots.{same_slots}
 use Rattle.buckets.proofs.plain.MiniBucket.new.Goals as goal
 
-pub invariant-of-result : goal.invariant-of-result
-invariant-of-result c = (length-replicate {A = ℕ} 33 0, (λ p. omega (arith, same_slots {X = ℕ} 33 p 0), tt))
+pub invariant_of-result : goal.invariant_of-result
+invariant_of-result c = (length-replicate {A = ℕ} 33 0, (λ p. omega (arith, same_slots {X = ℕ} 33 p 0), tt))
 
 pub returns : goal.returns
 returns c = record {

@@ -7,8 +7,8 @@ use Rattle.buckets.proofs.Listing.{counts, skips, counted}
 use Rattle.buckets.proofs.plain.Named.count.Goals as goal
 use Rattle.buckets.proofs.plain.Named.count.Goals.{then-has, else-has}
 
-pub overflow-add-count : goal.overflow-add-count
-overflow-add-count c =
+pub overflow_add-count : goal.overflow_add-count
+overflow_add-count c =
     let o = c.args.order.now in
     Fits-below {n = 255} tt (omega (arith, ap length c.variables-v-items.ensures, length-take o.len o.variables, c.loop-v.invariant.1))
 

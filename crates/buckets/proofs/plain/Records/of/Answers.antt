@@ -7,7 +7,7 @@ use Rattle.problems.proofs.Placements.{nth_none}
 use Rattle.buckets.specs.Listed.{listed}
 use Rattle.buckets.proofs.Listing.{next_placed}
 use Rattle.buckets.proofs.plain.Records.of.Goals as goal
-use Rattle.buckets.proofs.plain.Records.of.Goals.{in-Some, in-default}
+use Rattle.buckets.proofs.plain.Records.of.Goals.{in-Some, in_default}
 
 pub push-requires : goal.push-requires
 push-requires c =
@@ -21,7 +21,7 @@ loop-k-preserved c =
       | in-Some w ↦
           ap listed w.records-is ∙ w.push.ensures ∙ ap (λ (l : List Placed). l ++ placed_of w.in-Some.function ∷ []) c.loop-k.invariant
           ∙ sym (next_placed fs k w.in-Some.function (sym c.function.ensures ∙ ap (option_map placed_of) w.in-Some.is))
-      | in-default w ↦ absurd (omega (arith, nth_none fs k (sym w.in-default.ensures), c.function-count-k-end.ensures.count, c.loop-k-test.true))
+      | in_default w ↦ absurd (omega (arith, nth_none fs k (sym w.in_default.ensures), c.function-count-k-end.ensures.count, c.loop-k-test.true))
     ]
 
 pub returns : goal.returns

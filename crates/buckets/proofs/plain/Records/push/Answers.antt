@@ -11,8 +11,8 @@ listed c = omega (arith, listed_length c.args.self.now)
 pub bounds-self-len : goal.bounds-self-len
 bounds-self-len c = omega (arith, listed_length c.args.self.now)
 
-pub invariant-of-self : goal.invariant-of-self
-invariant-of-self c =
+pub invariant_of-self : goal.invariant_of-self
+invariant_of-self c =
     let s = c.args.self.now in
     (length-set s.records s.len c.args.function ∙ s.long, (omega (arith, listed_length s), tt))
 

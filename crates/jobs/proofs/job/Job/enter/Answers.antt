@@ -10,17 +10,17 @@ returns g c =
     let p = c.args.self.now.plain in
     let area = c.args.area.now in
     let scope = c.args.scope.now in
-    let staged = c.in-ok-takes.ensures.0 in
-    let long = c.in-ok-takes-area.ensures.0 in
-    let new = c.in-ok-number.ensures in (
+    let staged = c.in_ok-takes.ensures.0 in
+    let long = c.in_ok-takes-area.ensures.0 in
+    let new = c.in_ok-number.ensures in (
       own_rows p Enter (length area) refl staged long (entering (outline p.shape) (length area) scope) ∙ new.0,
-      entered_is c.args.self.now _ area c.fill.new.cells scope c.args.cost c.in-ok-number.number c.used-start.result c.used-end.result
+      entered_is c.args.self.now _ area c.fill.new.cells scope c.args.cost c.in_ok-number.number c.used-start.result c.used-end.result
           new.0 new.1.0 (stage_is p Enter (length area) refl staged long) new.1.1 refl (c.start.ensures c.enter.new.self.order) refl refl c.used-start.ensures c.used-end.ensures c.fill.ensures,
     )
 
-pub offset-bounds-area-start : goal.offset-bounds-area-start
-offset-bounds-area-start g c =
+pub offset_bounds-area-start : goal.offset_bounds-area-start
+offset_bounds-area-start g c =
     let p = c.args.self.now.plain in
-    let h = inside p Enter (length c.args.area.now) refl c.in-ok-takes.ensures.0 c.in-ok-takes-area.ensures.0 in
+    let h = inside p Enter (length c.args.area.now) refl c.in_ok-takes.ensures.0 c.in_ok-takes-area.ensures.0 in
     let low : c.used-start.result ≤ length c.args.area.now = omega (arith, h, c.used-start.ensures) in
     search rules

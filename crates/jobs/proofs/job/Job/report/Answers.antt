@@ -12,18 +12,18 @@ use Rattle.jobs.proofs.job.Job.report.Goals as goal
 pub list-found-found-requires : goal.list-found-found-requires
 list-found-found-requires g c =
     let sizes = c.args.self.now.plain.shape.sizes in
-    let same = buffer_long _ _ c.in-ok-takes-buffer.ensures.0 in
+    let same = buffer_long _ _ c.in_ok-takes-buffer.ensures.0 in
     record { few = omega (arith, same, length-take sizes.len sizes.sizes, sizes.few) }
 
 pub bar-cost-requires : goal.bar-cost-requires
-bar-cost-requires g c = record { there = two c.args.self.now.plain Report (length c.args.area.now) refl c.in-ok-takes.ensures.0 c.in-ok-takes-area.ensures.0 }
+bar-cost-requires g c = record { there = two c.args.self.now.plain Report (length c.args.area.now) refl c.in_ok-takes.ensures.0 c.in_ok-takes-area.ensures.0 }
 
 pub returns : goal.returns
 returns g c =
     let p = c.args.self.now.plain in
-    let staged = c.in-ok-takes.ensures.0 in
-    let long = c.in-ok-takes-area.ensures.0 in
-    let sized = c.in-ok-takes-buffer.ensures.0 in
+    let staged = c.in_ok-takes.ensures.0 in
+    let long = c.in_ok-takes-area.ensures.0 in
+    let sized = c.in_ok-takes-buffer.ensures.0 in
     let cells = length c.args.area.now in
     let empty = ap (λ n. map (of (values_of c.empty-empty.result.setting)) (take n (order_of p.shape.order))) c.empty-empty.ensures.len in (
       own_rows p Report cells refl staged long (buffer_rows (length (outline p.shape).sizes) (length c.args.buffer.now)) ∙ sized,

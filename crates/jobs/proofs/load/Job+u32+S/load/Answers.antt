@@ -5,12 +5,12 @@ use Rattle.jobs.proofs.Sounds.{draft_sound}
 use Rattle.jobs.proofs.Texts.{loaded_some, loaded_few}
 use Rattle.jobs.proofs.load.Job+u32+S.load.Goals as goal
 
-pub invariant-of-self : goal.invariant-of-self
-invariant-of-self g c =
-    let read = c.in-ok-loaded.ensures in
+pub invariant_of-self : goal.invariant_of-self
+invariant_of-self g c =
+    let read = c.in_ok-loaded.ensures in
     let d = read.0 in
     let loads = read.2 in
-    let shape = c.in-ok-loaded.loaded.shape in
+    let shape = c.in_ok-loaded.loaded.shape in
     let some = loaded_some c.args.text.now (length c.args.area.now) d read.1 in
     let few = loaded_few c.args.text.now (length c.args.area.now) d read.1 in (
       draft_sound (outline shape) (length c.load.new.area) (spot_of shape.order c.start.result)

@@ -8,16 +8,16 @@ use Rattle.problems.proofs.Placements.{nth_none, nth_some}
 use Rattle.variables.proofs.Tuples.{same_cell}
 use Rattle.problems.proofs.shape.Shape.cell.Goals as goal
 
-pub returns-in-default : goal.returns-in-default
-returns-in-default c =
-    let past = le-leb _ _ (nth_none (placed c.args.self.now.functions) c.args.function (sym c.in-default.ensures)) in
+pub returns-in_default : goal.returns-in_default
+returns-in_default c =
+    let past = le-leb _ _ (nth_none (placed c.args.self.now.functions) c.args.function (sym c.in_default.ensures)) in
     (rw past refl, tt)
 
-pub returns-in-default-setting : goal.returns-in-default-setting
-returns-in-default-setting c =
+pub returns-in_default-setting : goal.returns-in_default-setting
+returns-in_default-setting c =
     let found = sym c.in-Some.ensures in
     let there = lt-leb _ _ (nth_some (placed c.args.self.now.functions) c.args.function _ found) in
-    (rw (there, found, c.in-default-setting.ensures) refl, tt)
+    (rw (there, found, c.in_default-setting.ensures) refl, tt)
 
 pub returns : goal.returns
 returns c =

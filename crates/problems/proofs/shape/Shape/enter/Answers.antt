@@ -8,17 +8,17 @@ use Rattle.variables.proofs.Rows.{no_row}
 use Rattle.problems.proofs.Placements.{laid_push, proper_more}
 use Rattle.problems.proofs.shape.Shape.enter.Goals as goal
 
-pub invariant-of-self : goal.invariant-of-self
-invariant-of-self c =
+pub invariant_of-self : goal.invariant_of-self
+invariant_of-self c =
     let s = c.args.self.now in
     let sizes = sizes_of s.sizes in
     let fs = placed s.functions in
     let new : Placed = placed_of c.entered.result in
-    let all = c.in-ok-push.ensures.1 in
+    let all = c.in_ok-push.ensures.1 in
     let scope = ap (λ (p : Placed). p.scope) c.entered.ensures in
     let start = ap (λ (p : Placed). p.start) c.entered.ensures in
-    let ok = not-false _ (no_row _ _ c.in-ok-scope.ensures.0) in
-    let same = c.in-ok-scope.ensures.1 in (
+    let ok = not-false _ (no_row _ _ c.in_ok-scope.ensures.0) in
+    let same = c.in_ok-scope.ensures.1 in (
       rw (all, c.table-cells.ensures.count, ← scope) (laid_push sizes 2 s.used fs new s.laid start),
       (
         rw all (proper_more (length sizes) fs new s.scoped (rw (scope, same) ok)),

@@ -7,15 +7,15 @@ use Rattle.variables.proofs.Slots.{each_after}
 use Rattle.variables.proofs.Listings.{distinct_push}
 use Rattle.variables.proofs.plain.Order.push.Goals as goal
 
-pub invariant-of-self : goal.invariant-of-self
-invariant-of-self c =
+pub invariant_of-self : goal.invariant_of-self
+invariant_of-self c =
     let s = c.args.self.now in
     let v = c.args.variable in
     let more = take_more_set s.variables s.len v (omega arith) in
     let new : has (order_of s) v ≡ false = grind arith in
     let few : v < 32 = omega (arith, length-take c.args.sizes.now.len c.args.sizes.now.sizes) in
     let apart : distinct (take (s.len + 1) (set s.variables s.len v)) ≡ true = rw (more, distinct_push (order_of s) v, s.apart, new) in
-    (omega arith, (each_after (λ x. x < 32) s.variables s.len v 0 few s.within, (apart, tt)))
+    record { few = omega arith; within = each_after (λ x. x < 32) s.variables s.len v 0 few s.within; apart = apart }
 
 pub returns : goal.returns
 returns c =

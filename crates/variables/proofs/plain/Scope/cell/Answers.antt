@@ -11,15 +11,15 @@ bounds-sizes-v c = variable_slot c.args.self.now _ c.variables-v-items.ensures c
 pub bounds-setting-v : goal.bounds-setting-v
 bounds-setting-v c = variable_slot c.args.self.now _ c.variables-v-items.ensures c.loop-v.v-index c.loop-v-test.true
 
-pub overflow-mul-at : goal.overflow-mul-at
-overflow-mul-at c =
+pub overflow_mul-at : goal.overflow_mul-at
+overflow_mul-at c =
     let i = c.loop-v.v-index in
     let v = get_or c.variables-v-items.result.now i 0 in
     let few = arity_few c.args.self.now _ c.variables-v-items.ensures i c.loop-v-test.true in
     place_fits _ (i + 1) _ (omega arith) (place_more c.loop-v.at (get_or c.args.sizes.now.sizes v 0) 0 i c.loop-v.invariant.1 (c.args.sizes.now.small v) (omega arith)) (omega arith)
 
-pub overflow-add-at : goal.overflow-add-at
-overflow-add-at c =
+pub overflow_add-at : goal.overflow_add-at
+overflow_add-at c =
     let i = c.loop-v.v-index in
     let v = get_or c.variables-v-items.result.now i 0 in
     let few = arity_few c.args.self.now _ c.variables-v-items.ensures i c.loop-v-test.true in

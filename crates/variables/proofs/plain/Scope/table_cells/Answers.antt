@@ -8,8 +8,8 @@ use Rattle.variables.proofs.plain.Scope.table_cells.Goals as goal
 pub bounds-sizes-v : goal.bounds-sizes-v
 bounds-sizes-v c = variable_slot c.args.self.now _ c.variables-v-items.ensures c.loop-v.v-index c.loop-v-test.true
 
-pub overflow-mul-count : goal.overflow-mul-count
-overflow-mul-count c =
+pub overflow_mul-count : goal.overflow_mul-count
+overflow_mul-count c =
     let i = c.loop-v.v-index in
     let v = get_or c.variables-v-items.result.now i 0 in
     let few = arity_few c.args.self.now _ c.variables-v-items.ensures i c.loop-v-test.true in

@@ -5,13 +5,13 @@ use Rattle.std.proofs.lemmas.Bool.Decides.{nat_tests}
 use Rattle.variables.specs.Rules.{domain, domains}
 use Rattle.variables.proofs.plain.Sizes.of.Goals as goal
 
-pub returns-in-err-push : goal.returns-in-err-push
-returns-in-err-push c =
-    let p = err_from_is_err_and c.from-residual.result c.from-residual.ensures.1 in
+pub returns-in_err-push : goal.returns-in_err-push
+returns-in_err-push c =
+    let p = err_from_is_err_and c.from_residual.result c.from_residual.ensures.1 in
     let xs = c.args.sizes.now in
     let i = c.loop-size.size-index in
     let step = at_drop_more domains xs i 0 (omega arith) in
-    let why = c.in-err-push.ensures in
+    let why = c.in_err-push.ensures in
     let long = ap length c.loop-size.invariant.0 ∙ length-take-le i xs (omega arith) in
     rw (p.1, p.2) (grind (arith, nat_tests))
 
@@ -21,7 +21,7 @@ loop-size-preserved c =
     let i = c.loop-size.size-index in
     let step = at_drop_more domains xs i 0 (omega arith) in
     let more = take_more xs i 0 (omega arith) in
-    let why = c.in-ok-push.ensures in
+    let why = c.in_ok-push.ensures in
     (cc, grind (arith, nat_tests))
 
 pub returns : goal.returns

@@ -3,8 +3,8 @@ use Rattle.words.specs.Readings.{next, rest_of}
 use Rattle.words.proofs.Firsts.{inside, found, none, still}
 use Rattle.words.proofs.reader.Reader.word.Goals as goal
 
-pub slice-bounds-result-end : goal.slice-bounds-result-end
-slice-bounds-result-end c = inside c.args.self.now.text.now c.args.self.now.at _ _ c.skip-blanks-from.ensures c.run-end-to.ensures c.if-from-to.true
+pub slice_bounds-result-end : goal.slice_bounds-result-end
+slice_bounds-result-end c = inside c.args.self.now.text.now c.args.self.now.at _ _ c.skip-blanks-from.ensures c.run-end-to.ensures c.if-from-to.true
 
 pub returns-then-from-to : goal.returns-then-from-to
 returns-then-from-to c =
