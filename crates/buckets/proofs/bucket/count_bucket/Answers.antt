@@ -41,7 +41,7 @@ push-requires c =
     (omega (arith, listed_length ws, c.loop-waiting-test.true)) c.requires
 
 pub overflow_add-cells : goal.overflow_add-cells
-overflow_add-cells c = Fits-below {n = 4294967295} tt (omega (arith, c.loop-waiting.invariant.small, listed_length c.loop-waiting.records, c.loop-waiting.records.few, c.table-cells-cells.ensures.few))
+overflow_add-cells c = Fits-below {n = 4294967295} tt (omega (arith, c.loop-waiting.invariant.small, listed_length c.loop-waiting.records, c.loop-waiting.records.few, c.table_cells-cells.ensures.few))
 
 pub loop-waiting-preserved : goal.loop-waiting-preserved
 loop-waiting-preserved c =
@@ -53,7 +53,7 @@ loop-waiting-preserved c =
     counting_goes (sizes_of plan.sizes) order plan.width c.args.p (listed c.args.records.now) (listed c.loop-waiting.records) (listed ws) c.loop-waiting.cells c.loop-waiting.invariant
     (omega (arith, listed_length ws, c.loop-waiting-test.true)) _ _ (scope_of c.others-scope.result) _ scope
     (c.push.ensures ∙ ap (λ (f : Placed). listed c.loop-waiting.records ++ f ∷ []) c.message.ensures) c.part-parted.ensures.rest
-    (ap (λ n. c.loop-waiting.cells + n) c.table-cells-cells.ensures.count) (omega (arith, c.table-cells-cells.ensures.few, c.table-cells-cells.ensures.count))
+    (ap (λ n. c.loop-waiting.cells + n) c.table_cells-cells.ensures.count) (omega (arith, c.table_cells-cells.ensures.few, c.table_cells-cells.ensures.count))
 
 pub loop-waiting-smaller : goal.loop-waiting-smaller
 loop-waiting-smaller c =

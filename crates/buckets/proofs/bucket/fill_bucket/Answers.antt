@@ -81,7 +81,7 @@ loop-waiting-preserved g c =
     making_goes K sizes order plan.width c.args.p (listed c.args.records.now) c.args.area.now c.args.end c.requires.roomy (listed l.records) (listed ws) l.area l.at l.invariant some
     _ _ (scope_of c.others-scope.result) _ _ scope
     (c.push.ensures ∙ ap (λ (f : Placed). listed l.records ++ f ∷ []) (c.message.ensures ∙ ap (λ i. record { scope = scope_of c.others-scope.result; origin = c.args.p + 1; start = i }) low))
-    c.part-parted.ensures.rest (ap (λ n. l.at + n) c.table-cells-at.ensures.count)
+    c.part-parted.ensures.rest (ap (λ n. l.at + n) c.table_cells-at.ensures.count)
     (c.write.ensures ∙ ap₂ (λ v (m : List Placed). take l.at l.area ++ (tabulate sizes (scope_of c.others-scope.result) (eliminated K sizes v (map (function_in sizes l.area) m)) (λ u. 0) ++ drop (l.at + cells sizes (scope_of c.others-scope.result)) l.area)) var ms)
 
 pub loop-waiting-smaller : goal.loop-waiting-smaller

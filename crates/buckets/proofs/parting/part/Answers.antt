@@ -9,7 +9,7 @@ use Rattle.buckets.proofs.Listing.{listed_length, listed_drop}
 use Rattle.buckets.proofs.Joining.{joins_turn, waits_turn, all_waited}
 use Rattle.buckets.proofs.Marking.{named_push}
 use Rattle.buckets.proofs.parting.part.Goals as goal
-use Rattle.buckets.proofs.parting.part.Goals.{then-may-join, else-may-join}
+use Rattle.buckets.proofs.parting.part.Goals.{then-may_join, else-may_join}
 
 pub loop-k-init : goal.loop-k-init
 loop-k-init c =
@@ -25,14 +25,14 @@ loop-k-init c =
       omega (arith, ap length rest),
     )
 
-pub may-join-requires : goal.may-join-requires
-may-join-requires c = c.loop-k.invariant.2
+pub may_join-requires : goal.may_join-requires
+may_join-requires c = c.loop-k.invariant.2
 
 pub push-requires : goal.push-requires
 push-requires c = omega (arith, c.loop-k.invariant.3)
 
-pub push-requires-else-may-join : goal.push-requires-else-may-join
-push-requires-else-may-join c = omega (arith, c.loop-k.invariant.4)
+pub push-requires-else-may_join : goal.push-requires-else-may_join
+push-requires-else-may_join c = omega (arith, c.loop-k.invariant.4)
 
 pub loop-k-preserved : goal.loop-k-preserved
 loop-k-preserved c =
@@ -44,12 +44,12 @@ loop-k-preserved c =
     let item = get_or all.records k c.index-waiting-k.result in
     let next = listed_drop all k c.index-waiting-k.result c.loop-k-test.true in
     let scope : scope_of c.scope-scope.result ≡ scope_of item.scope = ap scope_of c.scope-scope.ensures in
-    let test : c.may-join.result ≡ joins order w (listed l.members) (scope_of item.scope) = c.may-join.ensures ∙ ap (joins order w (listed l.members)) scope in
-    elim c.if-may-join.branch [
-      | then-may-join w' ↦
-          let more : listed c.if-may-join.members ≡ listed l.members ++ placed_of item ∷ [] = ap listed w'.members-is ∙ w'.push.ensures in
-          let same : listed c.if-may-join.rest ≡ listed l.rest = ap listed w'.rest-is in
-          let turn = joins_turn order w (listed all) k (placed_of item) (listed l.members) next (listed l.rest) _ _ l.invariant.0 l.invariant.1 (sym test ∙ w'.if-may-join.true) _ _ more same in (
+    let test : c.may_join.result ≡ joins order w (listed l.members) (scope_of item.scope) = c.may_join.ensures ∙ ap (joins order w (listed l.members)) scope in
+    elim c.if-may_join.branch [
+      | then-may_join w' ↦
+          let more : listed c.if-may_join.members ≡ listed l.members ++ placed_of item ∷ [] = ap listed w'.members-is ∙ w'.push.ensures in
+          let same : listed c.if-may_join.rest ≡ listed l.rest = ap listed w'.rest-is in
+          let turn = joins_turn order w (listed all) k (placed_of item) (listed l.members) next (listed l.rest) _ _ l.invariant.0 l.invariant.1 (sym test ∙ w'.if-may_join.true) _ _ more same in (
             turn.0,
             turn.1,
             λ v h. ap (λ (n : Named). get_or n.named v false) w'.named-is
@@ -57,10 +57,10 @@ loop-k-preserved c =
             omega (arith, l.invariant.3, ap length more, length_push (listed l.members) (placed_of item)),
             omega (arith, l.invariant.4, ap length same),
           )
-      | else-may-join w' ↦
-          let same : listed c.if-may-join.members ≡ listed l.members = ap listed w'.members-is in
-          let more : listed c.if-may-join.rest ≡ listed l.rest ++ placed_of item ∷ [] = ap listed w'.rest-is ∙ w'.push-else-may-join.ensures in
-          let turn = waits_turn order w (listed all) k (placed_of item) (listed l.members) next (listed l.rest) _ _ l.invariant.0 l.invariant.1 (sym test ∙ w'.if-may-join.false) _ _ same more in (
+      | else-may_join w' ↦
+          let same : listed c.if-may_join.members ≡ listed l.members = ap listed w'.members-is in
+          let more : listed c.if-may_join.rest ≡ listed l.rest ++ placed_of item ∷ [] = ap listed w'.rest-is ∙ w'.push-else-may_join.ensures in
+          let turn = waits_turn order w (listed all) k (placed_of item) (listed l.members) next (listed l.rest) _ _ l.invariant.0 l.invariant.1 (sym test ∙ w'.if-may_join.false) _ _ same more in (
             turn.0,
             turn.1,
             λ v h. ap (λ (n : Named). get_or n.named v false) w'.named-is ∙ l.invariant.2 v h ∙ ap (λ (x : List Placed). names x v) (sym same),

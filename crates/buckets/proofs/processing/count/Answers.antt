@@ -11,8 +11,8 @@ loop-p-init c =
     let plan = c.args.plan.now in
     tally_begins (sizes_of plan.sizes) (order_of plan.order) plan.width (listed c.args.functions.now) (length c.variables-p.result.now) (ap length c.variables-p.ensures)
 
-pub count-bucket-cells-requires : goal.count-bucket-cells-requires
-count-bucket-cells-requires c =
+pub count_bucket-cells-requires : goal.count_bucket-cells-requires
+count_bucket-cells-requires c =
     let plan = c.args.plan.now in
     walk_ready (sizes_of plan.sizes) (order_of plan.order) plan.width (listed c.args.functions.now) c.requires c.loop-p.p c.loop-p-test.true (omega (arith, c.loop-p.auto.p, ap length c.variables-p.ensures))
     (listed c.loop-p.records) c.loop-p.invariant.scopes
@@ -20,13 +20,13 @@ count-bucket-cells-requires c =
 pub overflow_add-cells : goal.overflow_add-cells
 overflow_add-cells c =
     let o = c.args.plan.now.order in
-    Fits-below {n = 18446744073709551615} tt (omega (arith, c.loop-p.invariant.small, c.count-bucket-cells.ensures.few, length-take o.len o.variables, o.few))
+    Fits-below {n = 18446744073709551615} tt (omega (arith, c.loop-p.invariant.small, c.count_bucket-cells.ensures.few, length-take o.len o.variables, o.few))
 
 pub loop-p-preserved : goal.loop-p-preserved
 loop-p-preserved c =
     let plan = c.args.plan.now in
-    tally_goes (sizes_of plan.sizes) (order_of plan.order) plan.width (listed c.args.functions.now) c.requires c.loop-p.p (listed c.loop-p.records) _ c.loop-p.cells c.count-bucket-cells.result _
-    c.loop-p-test.true (omega (arith, c.loop-p.auto.p, ap length c.variables-p.ensures)) c.loop-p.invariant c.count-bucket-cells.ensures.records c.count-bucket-cells.ensures.cells c.count-bucket-cells.ensures.few refl
+    tally_goes (sizes_of plan.sizes) (order_of plan.order) plan.width (listed c.args.functions.now) c.requires c.loop-p.p (listed c.loop-p.records) _ c.loop-p.cells c.count_bucket-cells.result _
+    c.loop-p-test.true (omega (arith, c.loop-p.auto.p, ap length c.variables-p.ensures)) c.loop-p.invariant c.count_bucket-cells.ensures.records c.count_bucket-cells.ensures.cells c.count_bucket-cells.ensures.few refl
 
 pub returns : goal.returns
 returns c =

@@ -31,8 +31,8 @@ loop-p-init g c =
       each_after (λ x. x ≤ 384) (replicate 33 0) n fs.len 0 fs.few (λ v. omega (arith, same_slots {X = ℕ} 33 v 0)),
     )
 
-pub fill-bucket-end-requires : goal.fill-bucket-end-requires
-fill-bucket-end-requires g c =
+pub fill_bucket-end-requires : goal.fill_bucket-end-requires
+fill_bucket-end-requires g c =
     let plan = c.args.plan.now in
     let l = c.loop-p in
     let inside : l.p ≤ length (order_of plan.order) = omega (arith, l.auto.p, ap length c.variables-n.ensures) in
@@ -49,9 +49,9 @@ loop-p-preserved g c =
     let l = c.loop-p in
     let inside : l.p ≤ length (order_of plan.order) = omega (arith, l.auto.p, ap length c.variables-n.ensures) in
     let low = few plan.order c.variables-n.result.now c.variables-n.ensures in
-    let after = c.fill-bucket-end.new.records in (
+    let after = c.fill_bucket-end.new.records in (
       gone_goes g.C.Cost.structure (sizes_of plan.sizes) (order_of plan.order) plan.width (listed c.args.functions.now) c.args.area.now c.args.at c.requires.able c.requires.spacious l.p c.loop-p-test.true inside (listed l.records) l.reach l.area l.end l.invariant.0
-          (listed after) c.fill-bucket-end.new.area c.fill-bucket-end.result c.fill-bucket-end.ensures _ l.invariant.1 (omega (arith, l.auto.p)) (ap (set l.reach (l.p - 1)) (sym (listed_length after))),
+          (listed after) c.fill_bucket-end.new.area c.fill_bucket-end.result c.fill_bucket-end.ensures _ l.invariant.1 (omega (arith, l.auto.p)) (ap (set l.reach (l.p - 1)) (sym (listed_length after))),
       length-set l.reach (l.p - 1) after.len ∙ l.invariant.1,
       each_after (λ x. x ≤ 384) l.reach (l.p - 1) after.len 0 after.few l.invariant.2,
     )

@@ -39,5 +39,5 @@ returns c =
     let w = c.args.width in
     let all : short w (scopes_of (listed r)) ≡ true = sym c.loop-k.invariant ∙ at_drop_all (λ l. short w (scopes_of l)) (listed r) c.loop-k.k (omega (arith, listed_length r, c.loop-k-test.false)) in
     let low : leb 1 w ≡ true = le-leb 1 w (omega (arith, c.if-width-eq0.false)) in
-    let high : leb w 6 ≡ true = le-leb w 6 c.if-width-gt-MOST-WIDTH.false in
+    let high : leb w 6 ≡ true = le-leb w 6 c.if-width-gt-MOST_WIDTH.false in
     grind arith

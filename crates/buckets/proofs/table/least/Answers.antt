@@ -13,7 +13,7 @@ use Rattle.buckets.proofs.Leasts.{least_first, least_more, least_all}
 use Rattle.buckets.proofs.Lows.{sized_low}
 use Rattle.buckets.proofs.Tuples.{of_set}
 use Rattle.buckets.proofs.table.least.Goals as goal
-use Rattle.buckets.proofs.table.least.Goals.{then-not-is-at-most, else-not-is-at-most}
+use Rattle.buckets.proofs.table.least.Goals.{then-not-is_at_most, else-not-is_at_most}
 
 given : (sizes : Sizes) (t : Setting) (v : ℕ) → 0 < get_or (sizes_of sizes) v 0 → (c : ℕ) (s : List ℕ) → s ≡ set (values_of t) v c → of s ≡ assign (of (values_of t)) v c
 given sizes t v some c s e = ap of e ∙ of_set (values_of t) v c (omega (arith, sized_low sizes v some, t.long))
@@ -41,13 +41,13 @@ loop-value-preserved g c =
     let at : Assignment → g.row.C.Denot = λ a. total K (map (held K sizes c.args.area.now a) (listed c.args.members.now)) in
     let slots : values_of c.give-in-loop-value.new.self ≡ set (values_of t) v value = c.give-in-loop-value.ensures ∙ l.invariant.1 value in
     let here : c.cost-cost.result ≡ at (assign (of (values_of t)) v value) = c.cost-cost.ensures ∙ ap at (given c.args.sizes.now t v c.requires value _ slots) in
-    let test : K.at_most l.least c.cost-cost.result ≡ c.is-at-most.result = sym c.is-at-most.ensures in
-    let step : c.if-not-is-at-most.least ≡ lesser K l.least c.cost-cost.result =
-    elim c.if-not-is-at-most.branch [
-      | then-not-is-at-most w ↦ w.least-is ∙ sym (ap (λ (b : Bool). cond b l.least c.cost-cost.result) (test ∙ w.if-not-is-at-most.true))
-      | else-not-is-at-most w ↦ w.least-is ∙ sym (ap (λ (b : Bool). cond b l.least c.cost-cost.result) (test ∙ w.if-not-is-at-most.false))
+    let test : K.at_most l.least c.cost-cost.result ≡ c.is_at_most.result = sym c.is_at_most.ensures in
+    let step : c.if-not-is_at_most.least ≡ lesser K l.least c.cost-cost.result =
+    elim c.if-not-is_at_most.branch [
+      | then-not-is_at_most w ↦ w.least-is ∙ sym (ap (λ (b : Bool). cond b l.least c.cost-cost.result) (test ∙ w.if-not-is_at_most.true))
+      | else-not-is_at_most w ↦ w.least-is ∙ sym (ap (λ (b : Bool). cond b l.least c.cost-cost.result) (test ∙ w.if-not-is_at_most.false))
     ] in (
-      least_more g.met.C.Cost.lawful (λ x. at (assign (of (values_of t)) v x)) (get_or sizes v 0) l.least c.if-not-is-at-most.least value _ (omega (arith, c.loop-value-test.true, c.size-value-end.ensures)) l.invariant.0
+      least_more g.met.C.Cost.lawful (λ x. at (assign (of (values_of t)) v x)) (get_or sizes v 0) l.least c.if-not-is_at_most.least value _ (omega (arith, c.loop-value-test.true, c.size-value-end.ensures)) l.invariant.0
           (step ∙ ap (lesser K l.least) here),
       λ x. ap (λ (s : List ℕ). set s v x) slots ∙ set-set (values_of t) v value x,
     )

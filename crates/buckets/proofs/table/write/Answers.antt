@@ -25,7 +25,7 @@ loop-k-preserved g c =
     let a = of (values_of c.tuple-setting.result) in
     let table = tabulate sizes scope (eliminated K sizes v (map (function_in sizes area) ms)) (λ u. 0) in
     let long : length table ≡ cells sizes scope = tabulate_length sizes scope (eliminated K sizes v (map (function_in sizes area) ms)) (λ u. 0) in
-    let few : k < cells sizes scope = omega (arith, c.table-cells-k-end.ensures.count) in
+    let few : k < cells sizes scope = omega (arith, c.table_cells-k-end.ensures.count) in
     let front : take start c.loop-k.area ≡ take start area = written_front area c.loop-k.area (take k table ++ drop (start + k) area) start (omega (arith, c.requires.there)) c.loop-k.invariant in
     let ranged = c.tuple-setting.ensures.ranged in
     let cost : c.least-cost.result ≡ eliminated K sizes v (map (function_in sizes area) ms) a =
@@ -44,7 +44,7 @@ returns g c =
     let F = eliminated K sizes c.args.variable (map (function_in sizes area) (listed c.args.members.now)) in
     let table = tabulate sizes scope F (λ u. 0) in
     let k = c.loop-k.k in
-    let end : k ≡ cells sizes scope = omega (arith, c.table-cells-k-end.ensures.count, c.loop-k-test.false, c.loop-k.auto.k-end) in
+    let end : k ≡ cells sizes scope = omega (arith, c.table_cells-k-end.ensures.count, c.loop-k-test.false, c.loop-k.auto.k-end) in
     let whole : take k table ≡ table = take_all k table (omega (arith, tabulate_length sizes scope F (λ u. 0))) in
     c.loop-k.invariant ∙ ap (λ (t : List g.row.C.Denot). take c.args.start area ++ (t ++ drop (c.args.start + k) area)) whole
     ∙ ap (λ n. take c.args.start area ++ (table ++ drop (c.args.start + n) area)) end

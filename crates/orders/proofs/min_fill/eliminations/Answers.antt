@@ -11,7 +11,7 @@ use Rattle.orders.proofs.Eliminations.{numbered_length, eliminated_none, elimina
 use Rattle.orders.proofs.min_fill.eliminations.Goals as goal
 
 pub fewest-requires : goal.fewest-requires
-fewest-requires c = let long = ap length c.as-slice-in-loop-turn.ensures.value in omega (arith, long, c.loop-turn.invariant.1)
+fewest-requires c = let long = ap length c.as_slice-in-loop-turn.ensures.value in omega (arith, long, c.loop-turn.invariant.1)
 
 pub loop-turn-init : goal.loop-turn-init
 loop-turn-init c =
@@ -30,13 +30,13 @@ loop-turn-preserved c =
     let cliques : List (List ℕ) = map vec_items (vec_items c.loop-turn.cliques) in
     let left : List ℕ = vec_items c.loop-turn.left in
     let next : v ≡ fewest cliques left =
-    c.in_ok-v.ensures ∙ ap₂ (λ (xs : List (Vec ℕ Global)) (l : List ℕ). fewest (map vec_items xs) l) c.as-slice.ensures.value c.as-slice-in-loop-turn.ensures.value in
+    c.in_ok-v.ensures ∙ ap₂ (λ (xs : List (Vec ℕ Global)) (l : List ℕ). fewest (map vec_items xs) l) c.as_slice.ensures.value c.as_slice-in-loop-turn.ensures.value in
     let near : vec_items c.in_ok-near.near ≡ neighbours cliques left v =
     c.in_ok-near.ensures
-    ∙ ap₂ (λ (xs : List (Vec ℕ Global)) (l : List ℕ). neighbours (map vec_items xs) l v) c.as-slice-in-loop-turn-2.ensures.value c.as-slice-in-loop-turn-3.ensures.value in
+    ∙ ap₂ (λ (xs : List (Vec ℕ Global)) (l : List ℕ). neighbours (map vec_items xs) l v) c.as_slice-in-loop-turn-2.ensures.value c.as_slice-in-loop-turn-3.ensures.value in
     let more : map vec_items (vec_items c.push.new.self) ≡ cliques ++ neighbours cliques left v ∷ [] =
     ap (map vec_items) c.in_ok-push.ensures.items ∙ map_push vec_items (vec_items c.loop-turn.cliques) c.in_ok-near.near ∙ ap (λ (x : List ℕ). cliques ++ x ∷ []) near in
-    let rest : vec_items c.in_ok-left-2.left ≡ others left v = c.in_ok-left-2.ensures ∙ ap (λ (l : List ℕ). others l v) c.as-slice-in-loop-turn-4.ensures.value in
+    let rest : vec_items c.in_ok-left-2.left ≡ others left v = c.in_ok-left-2.ensures ∙ ap (λ (l : List ℕ). others l v) c.as_slice-in-loop-turn-4.ensures.value in
     let sizes : length (sizes_of c.sizes.result) ≡ n = ap (λ (s : Sizes). length (sizes_of s)) c.sizes.ensures in
     let fewer = others_fewer left v in
     let long = ap length rest in (

@@ -13,10 +13,10 @@ returns c =
     let sizes = sizes_of c.args.sizes.now in
     let scope = c.scope-scope.ensures in
     let start = c.start.ensures in
-    let n : c.table-cells.result ≡ cells sizes (scope_of c.in-Some.message.scope) = c.table-cells.ensures.count ∙ ap (λ (s : Scope). cells sizes (scope_of s)) scope in
+    let n : c.table_cells.result ≡ cells sizes (scope_of c.in-Some.message.scope) = c.table_cells.ensures.count ∙ ap (λ (s : Scope). cells sizes (scope_of s)) scope in
     let from = c.min-start.ensures in
-    let sum = c.saturating-add.ensures in
+    let sum = c.saturating_add.ensures in
     let to = c.min-end.ensures in
-    kept_put sizes c.args.area.now c.args.k (vec_items c.args.page.now) (vec_items c.message-line.new.page) (nth (messages c.args.source.now) c.args.k)
+    kept_put sizes c.args.area.now c.args.k (vec_items c.args.page.now) (vec_items c.message_line.new.page) (nth (messages c.args.source.now) c.args.k)
     (placed_of c.in-Some.message) _ _ c.min-start.result c.min-end.result (sym c.message.ensures ∙ ap (option_map placed_of) c.in-Some.is) (c.variables.ensures ∙ ap scope_of scope) c.origin.ensures
-    (omega arith) (omega arith) c.in_ok-message-line.ensures
+    (omega arith) (omega arith) c.in_ok-message_line.ensures

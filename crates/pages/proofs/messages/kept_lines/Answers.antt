@@ -9,8 +9,8 @@ pub loop-k-preserved : goal.loop-k-preserved
 loop-k-preserved c =
     let sizes = sizes_of c.args.sizes.now in
     let area = c.args.area.now in
-    lines_more (kept_line sizes area) (kept_lines sizes area) (λ k f fs. refl) (λ k. refl) (vec_items c.loop-k.page) (vec_items c.kept-line.new.page) _ c.loop-k.k (messages c.args.source.now)
-    (omega arith) c.in_ok-kept-line.ensures c.loop-k.invariant
+    lines_more (kept_line sizes area) (kept_lines sizes area) (λ k f fs. refl) (λ k. refl) (vec_items c.loop-k.page) (vec_items c.kept_line.new.page) _ c.loop-k.k (messages c.args.source.now)
+    (omega arith) c.in_ok-kept_line.ensures c.loop-k.invariant
 
 pub returns : goal.returns
 returns c =

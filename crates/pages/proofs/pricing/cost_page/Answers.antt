@@ -5,5 +5,5 @@ use Rattle.pages.proofs.pricing.cost_page.Goals as goal
 
 pub returns : goal.returns
 returns c =
-    let long = c.as-mut-slice.ensures.len ∙ c.in_ok-area.ensures.len in
-    subst (λ (n : ℕ). Priced (loading c.args.text.now n) n c.args.values.now c.priced-in.result) long c.priced-in.ensures
+    let long = c.as_mut_slice.ensures.len ∙ c.in_ok-area.ensures.len in
+    subst (λ (n : ℕ). Priced (loading c.args.text.now n) n c.args.values.now c.priced_in.result) long c.priced_in.ensures

@@ -40,11 +40,11 @@ returns c =
     let there = ap (λ o. problem o area) c.shape-shape.ensures ∙ loaded.2.problem_is in
     let given = c.in_ok-setting.ensures in
     let page = c.in_ok-page.ensures in
-    let title = ap (λ x. x.now) c.unwrap-or-title.ensures ∙ title_is c.name.result _ d.name (c.name.ensures ∙ loading_name c.args.text.now cells d is) in (
+    let title = ap (λ x. x.now) c.unwrap_or-title.ensures ∙ title_is c.name.result _ d.name (c.name.ensures ∙ loading_name c.args.text.now cells d is) in (
       d,
       is,
       full_there d o area c.args.values.now same there given.0 c.shape-shape.result.scoped,
-      page_there d o area c.args.values.now same there given.0 c.shape-shape.result.scoped c.unwrap-or-title.result.now (values_of c.in_ok-setting.setting) page.0 c.in_ok-upper.upper
+      page_there d o area c.args.values.now same there given.0 c.shape-shape.result.scoped c.unwrap_or-title.result.now (values_of c.in_ok-setting.setting) page.0 c.in_ok-upper.upper
           (vec_items c.in_ok-page.page) title given.1 page.1 loaded.2.upper_is page.2
           ∙ ap (λ k. cost_page d k c.args.values.now) loaded.2.long,
     )

@@ -10,8 +10,8 @@ pub loop-k-preserved : goal.loop-k-preserved
 loop-k-preserved c =
     let o = outline c.args.shape.now in
     let a = of (values_of c.args.setting.now) in
-    lines_more (record_line o.sizes c.args.area.now a) (record_lines o.sizes c.args.area.now a) (λ k f fs. refl) (λ k. refl) (vec_items c.loop-k.page) (vec_items c.record-line.new.page) _ c.loop-k.k o.functions
-    (omega arith) c.in_ok-record-line.ensures c.loop-k.invariant
+    lines_more (record_line o.sizes c.args.area.now a) (record_lines o.sizes c.args.area.now a) (λ k f fs. refl) (λ k. refl) (vec_items c.loop-k.page) (vec_items c.record_line.new.page) _ c.loop-k.k o.functions
+    (omega arith) c.in_ok-record_line.ensures c.loop-k.invariant
 
 pub returns : goal.returns
 returns c =

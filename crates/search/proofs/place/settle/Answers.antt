@@ -10,8 +10,8 @@ pub loop-next-preserved : goal.loop-next-preserved
 loop-next-preserved c =
     let o = c.args.order.now in
     let s = c.args.sizes.now in
-    settles_again o s c.args.prefix.now c.args.first c.loop-next.prefix c.loop-next.next c.loop-next.invariant c.pop.new.self c.in-Some.value c.saturating-add-next.result
-    (c.loop-next-test.true ∙ c.size-at.ensures ∙ ap (size_at (sizes_of s) (order_of o)) c.len.ensures) c.in-Some.ensures.after c.saturating-add-next.ensures
+    settles_again o s c.args.prefix.now c.args.first c.loop-next.prefix c.loop-next.next c.loop-next.invariant c.pop.new.self c.in-Some.value c.saturating_add-next.result
+    (c.loop-next-test.true ∙ c.size_at.ensures ∙ ap (size_at (sizes_of s) (order_of o)) c.len.ensures) c.in-Some.ensures.after c.saturating_add-next.ensures
 
 pub returns-in_default : goal.returns-in_default
 returns-in_default c =
@@ -25,4 +25,4 @@ returns-after-loop-next c =
     let o = c.args.order.now in
     let s = c.args.sizes.now in
     settles_here o s c.args.prefix.now c.args.first c.loop-next.prefix c.loop-next.next c.loop-next.invariant
-    (λ e. c.loop-next-test.false (e ∙ sym (c.size-at.ensures ∙ ap (size_at (sizes_of s) (order_of o)) c.len.ensures)))
+    (λ e. c.loop-next-test.false (e ∙ sym (c.size_at.ensures ∙ ap (size_at (sizes_of s) (order_of o)) c.len.ensures)))

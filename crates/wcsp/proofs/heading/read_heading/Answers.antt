@@ -32,7 +32,7 @@ returns-in_err-functions c =
     let s₁ = c.word.new.self in
     let s₂ = c.variables.new.reader in
     let s₃ = c.figure.new.self in
-    record { kept = c.up-to.ensures.kept ∙ c.figure.ensures.kept ∙ c.variables.ensures.kept ∙ c.word.ensures.kept; read = rw (p.1, p.2) (functions_fault s c.in_err-functions.field-0.0 s₁ (word_of c.in_ok-word.field-0) s₂ c.in_ok-variables.variables s₃ c.in_ok-largest.largest c.word.ensures.kept c.in_ok-word.ensures.read c.variables.ensures.kept c.in_ok-variables.ensures.read c.figure.ensures.kept c.in_ok-largest.ensures.read c.in_err-functions.ensures.read) }
+    record { kept = c.up_to.ensures.kept ∙ c.figure.ensures.kept ∙ c.variables.ensures.kept ∙ c.word.ensures.kept; read = rw (p.1, p.2) (functions_fault s c.in_err-functions.field-0.0 s₁ (word_of c.in_ok-word.field-0) s₂ c.in_ok-variables.variables s₃ c.in_ok-largest.largest c.word.ensures.kept c.in_ok-word.ensures.read c.variables.ensures.kept c.in_ok-variables.ensures.read c.figure.ensures.kept c.in_ok-largest.ensures.read c.in_err-functions.ensures.read) }
 
 pub returns-in_err-upper : goal.returns-in_err-upper
 returns-in_err-upper c =
@@ -41,8 +41,8 @@ returns-in_err-upper c =
     let s₁ = c.word.new.self in
     let s₂ = c.variables.new.reader in
     let s₃ = c.figure.new.self in
-    let s₄ = c.up-to.new.self in
-    record { kept = c.figure-2.ensures.kept ∙ c.up-to.ensures.kept ∙ c.figure.ensures.kept ∙ c.variables.ensures.kept ∙ c.word.ensures.kept; read = rw (p.1, p.2) (upper_fault s c.in_err-upper.field-0.0 s₁ (word_of c.in_ok-word.field-0) s₂ c.in_ok-variables.variables s₃ c.in_ok-largest.largest s₄ c.in_ok-functions.functions c.word.ensures.kept c.in_ok-word.ensures.read c.variables.ensures.kept c.in_ok-variables.ensures.read c.figure.ensures.kept c.in_ok-largest.ensures.read c.up-to.ensures.kept c.in_ok-functions.ensures.read c.in_err-upper.ensures.read) }
+    let s₄ = c.up_to.new.self in
+    record { kept = c.figure-2.ensures.kept ∙ c.up_to.ensures.kept ∙ c.figure.ensures.kept ∙ c.variables.ensures.kept ∙ c.word.ensures.kept; read = rw (p.1, p.2) (upper_fault s c.in_err-upper.field-0.0 s₁ (word_of c.in_ok-word.field-0) s₂ c.in_ok-variables.variables s₃ c.in_ok-largest.largest s₄ c.in_ok-functions.functions c.word.ensures.kept c.in_ok-word.ensures.read c.variables.ensures.kept c.in_ok-variables.ensures.read c.figure.ensures.kept c.in_ok-largest.ensures.read c.up_to.ensures.kept c.in_ok-functions.ensures.read c.in_err-upper.ensures.read) }
 
 pub returns : goal.returns
 returns c =
@@ -50,12 +50,12 @@ returns c =
     let s₁ = c.word.new.self in
     let s₂ = c.variables.new.reader in
     let s₃ = c.figure.new.self in
-    let s₄ = c.up-to.new.self in
+    let s₄ = c.up_to.new.self in
     let s₅ = c.figure-2.new.self in
     let k₁ = c.word.ensures.kept in
     let k₂ = c.variables.ensures.kept in
     let k₃ = c.figure.ensures.kept in
-    let k₄ = c.up-to.ensures.kept in
+    let k₄ = c.up_to.ensures.kept in
     let name = word_of c.in_ok-word.field-0 in
     let v = c.in_ok-variables.variables in
     let l = c.in_ok-largest.largest in

@@ -10,7 +10,7 @@ use Rattle.wcsp.proofs.load.read.Goals as goal
 pub returns : goal.returns
 returns c =
     let s = c.new-reader.result in
-    let s₁ = c.read-heading.new.reader in
+    let s₁ = c.read_heading.new.reader in
     let s₂ = c.sizes.new.reader in
     let s₃ = c.entries.new.reader in
     let area = c.args.area.now in
@@ -25,7 +25,7 @@ returns c =
       checked = c.entries.ensures.checked;
       read = (
         _,
-        read_document c.args.text.now (length area) s s₁ s₂ s₃ c.in_ok-heading.heading sizes o (outline c.entries.new.shape) c.new-reader.ensures.whole c.new-reader.ensures.start c.read-heading.ensures.kept c.sizes.ensures.kept
+        read_document c.args.text.now (length area) s s₁ s₂ s₃ c.in_ok-heading.heading sizes o (outline c.entries.new.shape) c.new-reader.ensures.whole c.new-reader.ensures.start c.read_heading.ensures.kept c.sizes.ensures.kept
             h.0 h.1 h.2 z opens e.0 e.1 c.in_ok-end.ensures,
         (
           h.2.upper,

@@ -4,11 +4,11 @@ use Rattle.words.proofs.run.run_end.Goals as goal
 
 pub loop-end-preserved : goal.loop-end-preserved
 loop-end-preserved c =
-    omega (arith, c.loop-end.invariant, run_more c.args.text.now c.loop-end.end c.loop-end-test.true (sym c.is-blank.ensures ∙ c.if-not-is-blank.true))
+    omega (arith, c.loop-end.invariant, run_more c.args.text.now c.loop-end.end c.loop-end-test.true (sym c.is_blank.ensures ∙ c.if-not-is_blank.true))
 
-pub returns-else-not-is-blank : goal.returns-else-not-is-blank
-returns-else-not-is-blank c =
-    omega (arith, c.loop-end.invariant, run_stop c.args.text.now c.loop-end.end c.loop-end-test.true (sym c.is-blank.ensures ∙ c.if-not-is-blank.false))
+pub returns-else-not-is_blank : goal.returns-else-not-is_blank
+returns-else-not-is_blank c =
+    omega (arith, c.loop-end.invariant, run_stop c.args.text.now c.loop-end.end c.loop-end-test.true (sym c.is_blank.ensures ∙ c.if-not-is_blank.false))
 
 pub returns-after-loop-end : goal.returns-after-loop-end
 returns-after-loop-end c =

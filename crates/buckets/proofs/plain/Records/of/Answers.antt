@@ -11,7 +11,7 @@ use Rattle.buckets.proofs.plain.Records.of.Goals.{in-Some, in_default}
 
 pub push-requires : goal.push-requires
 push-requires c =
-    omega (arith, ap length c.loop-k.invariant, length-take c.loop-k.k (outline c.args.shape.now).functions, c.function-count-k-end.ensures.few, c.function-count-k-end.ensures.count)
+    omega (arith, ap length c.loop-k.invariant, length-take c.loop-k.k (outline c.args.shape.now).functions, c.function_count-k-end.ensures.few, c.function_count-k-end.ensures.count)
 
 pub loop-k-preserved : goal.loop-k-preserved
 loop-k-preserved c =
@@ -21,10 +21,10 @@ loop-k-preserved c =
       | in-Some w ↦
           ap listed w.records-is ∙ w.push.ensures ∙ ap (λ (l : List Placed). l ++ placed_of w.in-Some.function ∷ []) c.loop-k.invariant
           ∙ sym (next_placed fs k w.in-Some.function (sym c.function.ensures ∙ ap (option_map placed_of) w.in-Some.is))
-      | in_default w ↦ absurd (omega (arith, nth_none fs k (sym w.in_default.ensures), c.function-count-k-end.ensures.count, c.loop-k-test.true))
+      | in_default w ↦ absurd (omega (arith, nth_none fs k (sym w.in_default.ensures), c.function_count-k-end.ensures.count, c.loop-k-test.true))
     ]
 
 pub returns : goal.returns
 returns c =
     let fs = (outline c.args.shape.now).functions in
-    c.loop-k.invariant ∙ take_all c.loop-k.k fs (omega (arith, c.function-count-k-end.ensures.count))
+    c.loop-k.invariant ∙ take_all c.loop-k.k fs (omega (arith, c.function_count-k-end.ensures.count))

@@ -14,7 +14,7 @@ bounds-self-len c = omega (arith, listed_length c.args.self.now)
 pub invariant_of-self : goal.invariant_of-self
 invariant_of-self c =
     let s = c.args.self.now in
-    (length-set s.records s.len c.args.function ∙ s.long, (omega (arith, listed_length s), tt))
+    record { long = length-set s.records s.len c.args.function ∙ s.long; few = omega (arith, listed_length s) }
 
 pub returns : goal.returns
 returns c = let s = c.args.self.now in used_push placed_of s.len s.records c.args.function (omega (arith, listed_length s))

@@ -26,9 +26,9 @@ loop-k-preserved g c =
     let len = c.len.ensures in
     elim c.if-self-k.branch [
       | then-self-k w ↦
-          let here = w.function-cost.ensures ∙ ap (λ (s : Setting). held_by K o.sizes area (of (values_of s)) (nth o.functions k)) c.values-setting.ensures in
+          let here = w.function_cost.ensures ∙ ap (λ (s : Setting). held_by K o.sizes area (of (values_of s)) (nth o.functions k)) c.values-setting.ensures in
           ap (λ (sum : g.row.C.Denot). rest K o.sizes area a bs n o.functions sum (k + 1)) (w.sum-is ∙ w.combine-sum.ensures)
-          ∙ picks K o.sizes area a bs n o.functions c.loop-k.sum w.function-cost.result k _ (omega arith) (omega (arith, w.if-self-k.true)) here c.loop-k.invariant
+          ∙ picks K o.sizes area a bs n o.functions c.loop-k.sum w.function_cost.result k _ (omega arith) (omega (arith, w.if-self-k.true)) here c.loop-k.invariant
       | else-self-k w ↦
           ap (λ (sum : g.row.C.Denot). rest K o.sizes area a bs n o.functions sum (k + 1)) w.sum-is
           ∙ passes K o.sizes area a bs n o.functions c.loop-k.sum k _ (omega arith) (omega (arith, w.if-self-k.false)) c.loop-k.invariant

@@ -8,12 +8,12 @@ use Rattle.jobs.proofs.job.Job.amend.Goals as goal
 pub bounds-area-at : goal.bounds-area-at
 bounds-area-at g c =
     let at = c.in_ok-at.ensures in
-    cell_inside c.args.self.now.plain Amend (length c.args.area.now) refl c.in_ok-takes.ensures.0 c.in_ok-takes-area.ensures.0 c.args.function c.args.tuple.now c.in_ok-at.at at.0 at.1
+    cell_inside c.args.self.now.plain Amend (length c.args.area.now) refl c.in_ok-takes.ensures.0 c.in_ok-takes_area.ensures.0 c.args.function c.args.tuple.now c.in_ok-at.at at.0 at.1
 
 pub offset_bounds-area-at : goal.offset_bounds-area-at
 offset_bounds-area-at g c =
     let at = c.in_ok-at.ensures in
-    let h = cell_inside c.args.self.now.plain Amend (length c.args.area.now) refl c.in_ok-takes.ensures.0 c.in_ok-takes-area.ensures.0 c.args.function c.args.tuple.now c.in_ok-at.at at.0 at.1 in
+    let h = cell_inside c.args.self.now.plain Amend (length c.args.area.now) refl c.in_ok-takes.ensures.0 c.in_ok-takes_area.ensures.0 c.args.function c.args.tuple.now c.in_ok-at.at at.0 at.1 in
     search rules
 
 pub returns : goal.returns
@@ -21,7 +21,7 @@ returns g c =
     let p = c.args.self.now.plain in
     let o = outline p.shape in
     let at = c.in_ok-at.ensures in
-    let rows = own_rows p Amend (length c.args.area.now) refl c.in_ok-takes.ensures.0 c.in_ok-takes-area.ensures.0 (amending o c.args.function c.args.tuple.now) in (
+    let rows = own_rows p Amend (length c.args.area.now) refl c.in_ok-takes.ensures.0 c.in_ok-takes_area.ensures.0 (amending o c.args.function c.args.tuple.now) in (
       rows ∙ at.0,
       record {
         job_is = refl;

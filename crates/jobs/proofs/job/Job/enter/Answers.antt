@@ -11,7 +11,7 @@ returns g c =
     let area = c.args.area.now in
     let scope = c.args.scope.now in
     let staged = c.in_ok-takes.ensures.0 in
-    let long = c.in_ok-takes-area.ensures.0 in
+    let long = c.in_ok-takes_area.ensures.0 in
     let new = c.in_ok-number.ensures in (
       own_rows p Enter (length area) refl staged long (entering (outline p.shape) (length area) scope) ∙ new.0,
       entered_is c.args.self.now _ area c.fill.new.cells scope c.args.cost c.in_ok-number.number c.used-start.result c.used-end.result
@@ -21,6 +21,6 @@ returns g c =
 pub offset_bounds-area-start : goal.offset_bounds-area-start
 offset_bounds-area-start g c =
     let p = c.args.self.now.plain in
-    let h = inside p Enter (length c.args.area.now) refl c.in_ok-takes.ensures.0 c.in_ok-takes-area.ensures.0 in
+    let h = inside p Enter (length c.args.area.now) refl c.in_ok-takes.ensures.0 c.in_ok-takes_area.ensures.0 in
     let low : c.used-start.result ≤ length c.args.area.now = omega (arith, h, c.used-start.ensures) in
     search rules

@@ -19,25 +19,25 @@ returns-in_err-arrange g c =
     let rows = order_rows (length (outline p.shape).sizes) c.args.order.now in
     let rest = source_rows g.S.FloorSource.rules c.args.self.now.source o cells in
     let staged = c.in_ok-takes.ensures.0 in
-    let long = c.in_ok-takes-area.ensures.0 in
+    let long = c.in_ok-takes_area.ensures.0 in
     let e = err_from_is_err_and c.from_residual-in_err-arrange.result c.from_residual-in_err-arrange.ensures.1 in
     rw (e.1, e.2) (own_rows p Prepare cells refl staged long (rows ++ rest) ∙ rows_first rows rest _ c.in_err-arrange.ensures.0, (refl, refl))
 
-pub set-limit-requires : goal.set-limit-requires
-set-limit-requires g c =
+pub set_limit-requires : goal.set_limit-requires
+set_limit-requires g c =
     let p = c.args.self.now.plain in
-    record { there = omega (arith, before_tables p.shape, inside p Prepare (length c.args.area.now) refl c.in_ok-takes.ensures.0 c.in_ok-takes-area.ensures.0) }
+    record { there = omega (arith, before_tables p.shape, inside p Prepare (length c.args.area.now) refl c.in_ok-takes.ensures.0 c.in_ok-takes_area.ensures.0) }
 
 pub fill-requires : goal.fill-requires
 fill-requires g c =
     let p = c.args.self.now.plain in
     let cells = length c.args.area.now in
-    let rows = c.in_ok-takes-source.ensures.0 in
+    let rows = c.in_ok-takes_source.ensures.0 in
     let R = g.S.FloorSource.rules in
     let s = c.args.self.now.source in
     let o = outline c.arrange.new.self in
-    let long = limited_long c.args.area.now c.args.limit c.set-limit.new.area c.set-limit.ensures in
-    let noted = noted_is p Prepare cells refl c.in_ok-takes.ensures.0 c.in_ok-takes-area.ensures.0 in
+    let long = limited_long c.args.area.now c.args.limit c.set_limit.new.area c.set_limit.ensures in
+    let noted = noted_is p Prepare cells refl c.in_ok-takes.ensures.0 c.in_ok-takes_area.ensures.0 in
     record {
       suited = suited R s o cells rows;
       behind = omega (arith, c.used.ensures);
@@ -49,14 +49,15 @@ pub invariant_of-self : goal.invariant_of-self
 invariant_of-self g c =
     let p = c.args.self.now.plain in
     let staged = c.in_ok-takes.ensures.0 in
-    let long = c.in_ok-takes-area.ensures.0 in
+    let long = c.in_ok-takes_area.ensures.0 in
     let cells = length c.args.area.now in
     let made = c.in_ok-arrange.ensures in
-    let shape = c.arrange.new.self in (
-      started_sound p.shape shape c.args.order.now made.1 made.0 (some p Prepare cells refl staged long) p.noted _ (c.start.ensures shape.order)
-          (omega (arith, inside p Prepare cells refl staged long, noted_is p Prepare cells refl staged long)),
-      (p.few, (omega arith, tt)),
-    )
+    let shape = c.arrange.new.self in record {
+      sound = started_sound p.shape shape c.args.order.now made.1 made.0 (some p Prepare cells refl staged long) p.noted _ (c.start.ensures shape.order)
+          (omega (arith, inside p Prepare cells refl staged long, noted_is p Prepare cells refl staged long));
+      few = p.few;
+      shown = omega arith;
+    }
 
 pub returns : goal.returns
 returns g c =
@@ -67,10 +68,10 @@ returns g c =
     let rows = order_rows (length (outline p.shape).sizes) c.args.order.now in
     let rest = source_rows R s (ordered (outline p.shape) c.args.order.now) cells in
     let staged = c.in_ok-takes.ensures.0 in
-    let long = c.in_ok-takes-area.ensures.0 in
+    let long = c.in_ok-takes_area.ensures.0 in
     let made = c.in_ok-arrange.ensures in (
       own_rows p Prepare cells refl staged long (rows ++ rest) ∙ rows_then rows rest made.0
-          ∙ ap (λ (o : Outline). first_of (source_rows R s o cells)) (sym made.1) ∙ c.in_ok-takes-source.ensures.0,
-      prepared_is R c.args.self.now _ c.args.area.now c.fill.new.area c.args.order.now c.args.limit c.used.result c.set-limit.new.area
-          refl made.1 refl (c.start.ensures c.arrange.new.self.order) refl c.used.ensures c.set-limit.ensures c.fill.ensures,
+          ∙ ap (λ (o : Outline). first_of (source_rows R s o cells)) (sym made.1) ∙ c.in_ok-takes_source.ensures.0,
+      prepared_is R c.args.self.now _ c.args.area.now c.fill.new.area c.args.order.now c.args.limit c.used.result c.set_limit.new.area
+          refl made.1 refl (c.start.ensures c.arrange.new.self.order) refl c.used.ensures c.set_limit.ensures c.fill.ensures,
     )

@@ -10,9 +10,9 @@ pub returns-then-eq : goal.returns-then-eq
 returns-then-eq g c =
     let p = c.args.self.now.plain in
     let staged = c.in_ok-takes.ensures.0 in
-    let long = c.in_ok-takes-area.ensures.0 in
+    let long = c.in_ok-takes_area.ensures.0 in
     let cells = length c.args.area.now in (
-      own_rows p Step cells refl staged long (budget_rows c.args.budget) ∙ c.in_ok-takes-budget.ensures.0,
+      own_rows p Step cells refl staged long (budget_rows c.args.budget) ∙ c.in_ok-takes_budget.ensures.0,
       steps_rest g.S.FloorSource.rules g.C.Cost.structure c.args.self.now c.args.area.now c.args.budget c.if-eq.ensures (over p Step cells refl staged c.if-eq.ensures) p.shown,
     )
 
@@ -20,17 +20,17 @@ pub returns : goal.returns
 returns g c =
     let p = c.args.self.now.plain in
     let staged = c.in_ok-takes.ensures.0 in
-    let long = c.in_ok-takes-area.ensures.0 in
+    let long = c.in_ok-takes_area.ensures.0 in
     let cells = length c.args.area.now in (
-      own_rows p Step cells refl staged long (budget_rows c.args.budget) ∙ c.in_ok-takes-budget.ensures.0,
+      own_rows p Step cells refl staged long (budget_rows c.args.budget) ∙ c.in_ok-takes_budget.ensures.0,
       steps_on g.S.FloorSource.rules g.C.Cost.structure c.args.self.now c.args.area.now c.args.budget _ (spot_of p.shape.order c.run-visits.new.self.place)
           c.bar.result c.run-visits.new.self.bar c.run-visits.result c.used.result c.after-after.ensures.there refl c.run-visits.ensures.few c.if-eq.ensures
           (two p Step cells refl staged long) c.used.ensures c.bar.ensures c.run-visits.ensures.runs (formed_is p Step cells refl staged long c.args.area.now refl)
-          (still p Step cells refl staged) c.set-bar.new.area c.set-bar.ensures,
+          (still p Step cells refl staged) c.set_bar.new.area c.set_bar.ensures,
     )
 
 pub bar-requires : goal.bar-requires
-bar-requires g c = record { there = two c.args.self.now.plain Step (length c.args.area.now) refl c.in_ok-takes.ensures.0 c.in_ok-takes-area.ensures.0 }
+bar-requires g c = record { there = two c.args.self.now.plain Step (length c.args.area.now) refl c.in_ok-takes.ensures.0 c.in_ok-takes_area.ensures.0 }
 
-pub set-bar-requires : goal.set-bar-requires
-set-bar-requires g c = record { there = two c.args.self.now.plain Step (length c.args.area.now) refl c.in_ok-takes.ensures.0 c.in_ok-takes-area.ensures.0 }
+pub set_bar-requires : goal.set_bar-requires
+set_bar-requires g c = record { there = two c.args.self.now.plain Step (length c.args.area.now) refl c.in_ok-takes.ensures.0 c.in_ok-takes_area.ensures.0 }

@@ -12,8 +12,9 @@ invariant_of-self g c =
     let loads = read.2 in
     let shape = c.in_ok-loaded.loaded.shape in
     let some = loaded_some c.args.text.now (length c.args.area.now) d read.1 in
-    let few = loaded_few c.args.text.now (length c.args.area.now) d read.1 in (
-      draft_sound (outline shape) (length c.load.new.area) (spot_of shape.order c.start.result)
-          (omega (arith, some, ap (λ (o : Outline). length o.sizes) loads.shape)) (omega (arith, loads.inside, loads.long)),
-      (omega (arith, few, loads.long), (omega arith, tt)),
-    )
+    let few = loaded_few c.args.text.now (length c.args.area.now) d read.1 in record {
+      sound = draft_sound (outline shape) (length c.load.new.area) (spot_of shape.order c.start.result)
+          (omega (arith, some, ap (λ (o : Outline). length o.sizes) loads.shape)) (omega (arith, loads.inside, loads.long));
+      few = omega (arith, few, loads.long);
+      shown = omega arith;
+    }

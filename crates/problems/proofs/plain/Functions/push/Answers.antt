@@ -4,8 +4,8 @@ use Rattle.problems.specs.Records.{placed_of, placed}
 use Rattle.problems.proofs.Placements.{used_length, used_push}
 use Rattle.problems.proofs.plain.Functions.push.Goals as goal
 
-pub returns-then-len-eq-MOST-FUNCTIONS : goal.returns-then-len-eq-MOST-FUNCTIONS
-returns-then-len-eq-MOST-FUNCTIONS c =
+pub returns-then-len-eq-MOST_FUNCTIONS : goal.returns-then-len-eq-MOST_FUNCTIONS
+returns-then-len-eq-MOST_FUNCTIONS c =
     let s = c.args.self.now in
     let len = used_length placed_of s.len s.records (omega arith) in
     (grind (arith, nat_tests), refl)

@@ -18,10 +18,9 @@ invariant_of-self c =
     let scope = ap (λ (p : Placed). p.scope) c.entered.ensures in
     let start = ap (λ (p : Placed). p.start) c.entered.ensures in
     let ok = not-false _ (no_row _ _ c.in_ok-scope.ensures.0) in
-    let same = c.in_ok-scope.ensures.1 in (
-      rw (all, c.table-cells.ensures.count, ← scope) (laid_push sizes 2 s.used fs new s.laid start),
-      (
-        rw all (proper_more (length sizes) fs new s.scoped (rw (scope, same) ok)),
-        (s.ordered, (omega arith, tt)),
-      ),
-    )
+    let same = c.in_ok-scope.ensures.1 in record {
+      laid = rw (all, c.table_cells.ensures.count, ← scope) (laid_push sizes 2 s.used fs new s.laid start);
+      scoped = rw all (proper_more (length sizes) fs new s.scoped (rw (scope, same) ok));
+      ordered = s.ordered;
+      low = omega arith;
+    }

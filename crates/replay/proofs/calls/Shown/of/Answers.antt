@@ -3,4 +3,4 @@ use Rattle.replay.proofs.Copies.{copied}
 use Rattle.replay.proofs.calls.Shown.of.Goals as goal
 
 pub returns : goal.returns
-returns c = copied 32 c.min-len.result c.args.buffer.now c.copy-from-slice.new.self _ (omega arith) c.copy-from-slice.ensures.after
+returns c = copied 32 c.min-len.result c.args.buffer.now c.copy_from_slice.new.self _ (omega arith) c.copy_from_slice.ensures.after

@@ -4,4 +4,4 @@ use Rattle.scripts.proofs.costs_written.PairWritten.read.Goals as goal
 
 pub returns : goal.returns
 returns c =
-    ranked_read c.args.word.now c.comma-of-at.result _ _ _ c.comma-of-at.ensures (omega arith) c.number-16.ensures c.number-16-2.ensures c.pair-of.ensures
+    ranked_read c.args.word.now c.comma_of-at.result _ _ _ c.comma_of-at.ensures (omega arith) c.number_16.ensures c.number_16-2.ensures c.pair_of.ensures

@@ -5,8 +5,8 @@ use Rattle.search.proofs.plain.Place.ended_along.Goals as goal
 
 pub returns-then-given-eq0 : goal.returns-then-given-eq0
 returns-then-given-eq0 c =
-    ended_then c.args.order.now (sizes_of c.args.sizes.now) c.args.self.now c.min-given.result c.size-at.result
-    (c.min-given.ensures ∙ ap₂ min c.len.ensures (ap length c.variables.ensures)) c.if-given-eq0.true c.size-at.ensures
+    ended_then c.args.order.now (sizes_of c.args.sizes.now) c.args.self.now c.min-given.result c.size_at.result
+    (c.min-given.ensures ∙ ap₂ min c.len.ensures (ap length c.variables.ensures)) c.if-given-eq0.true c.size_at.ensures
 
 pub returns-else-given-eq0 : goal.returns-else-given-eq0
 returns-else-given-eq0 c =
