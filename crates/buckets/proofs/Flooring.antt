@@ -28,7 +28,7 @@ use Rattle.buckets.proofs.Filters.{map_map}
 use Rattle.buckets.proofs.Listing.{listed_length, nth_take, take_past}
 use Rattle.buckets.proofs.Scopes.{scope_in, scopes_of_made}
 use Rattle.buckets.proofs.Made.{made_front, floor_made}
-use Rattle.buckets.proofs.Laying.{placed_length, placed_front}
+use Rattle.buckets.specs.Laying.{placed_length, placed_front}
 
 -- messages are over variables of the order
 made_within : {C : Type 0} {K : Structure C} (L : Lawful K) (sizes order : List ℕ) (w : ℕ) (fs : List (Function C)) (k : ℕ) → Within (λ u. has order u ≡ true) (bucket_made K sizes order w fs k)

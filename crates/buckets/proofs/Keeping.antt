@@ -19,7 +19,7 @@ use Rattle.buckets.specs.Made.{bucket_made, scopes_made, all_cells, placed_made}
 use Rattle.buckets.specs.Processed.{scopes_of}
 use Rattle.buckets.specs.Sources.{short, mini_suits, mini_room}
 use Rattle.buckets.specs.Tables.{Below}
-use Rattle.buckets.proofs.Laying.{laid_below}
+use Rattle.buckets.specs.Laying.{laid_below}
 use Rattle.buckets.proofs.Making.{below_same}
 
 pub narrow_from : (w : ℕ) (rest : Bool) → ((leb 1 w && leb w 6) && rest) ≡ true → w ≤ 6

@@ -12,8 +12,6 @@ pub mod Writing
 pub mod Propers
 pub mod Coming
 pub mod Making
-pub mod Laying
 pub mod Walking
-pub mod Staying
 pub mod Flooring
 pub mod Keeping

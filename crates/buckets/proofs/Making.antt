@@ -20,14 +20,10 @@ use Rattle.buckets.specs.Joining.{names, joins, lies_at, taken, passed}
 use Rattle.buckets.specs.Made.{scopes_from, all_cells, laid_out}
 use Rattle.buckets.specs.Processed.{scopes_of, Ready, Roomy, Processed}
 use Rattle.buckets.specs.Tables.{Below}
+use Rattle.buckets.specs.Laying.{laid_ends}
 use Rattle.buckets.proofs.Filters.{kept_map, all_kept}
 use Rattle.buckets.proofs.Joining.{first_fit, variables_names, names_push, all_taken, all_passed}
 use Rattle.buckets.proofs.Coming.{come, next_scope, come_step, come_first, Lies, lying}
-
--- where tables that are laid out end
-pub laid_ends : (sizes : List ℕ) (from to : ℕ) (fs : List Placed) → laid_from sizes from fs to ≡ true → to ≡ from + all_cells sizes (scopes_of fs)
-laid_ends sizes from to [] h = omega (arith, eqb-true from to h)
-laid_ends sizes from to (f ∷ fs) h = omega (arith, laid_ends sizes (from + cells sizes f.scope) to fs (and_parts (eqb f.start from) _ h).1)
 
 -- what is named
 

@@ -23,7 +23,7 @@ use Rattle.buckets.proofs.Bounds.{lengths, lengths_few, made_few}
 use Rattle.buckets.proofs.Propers.{is_distinct}
 use Rattle.buckets.proofs.Making.{below_same}
 use Rattle.buckets.proofs.Coming.{filed}
-use Rattle.buckets.proofs.Laying.{In, placed_scopes, placed_length, placed_laid, scopes_longer, cells_append, laid_below, made_inside, names_inside}
+use Rattle.buckets.specs.Laying.{In, placed_scopes, placed_length, placed_laid, scopes_longer, cells_append, laid_below, made_inside, names_inside}
 
 is_known : (n : ℕ) (vs : List ℕ) → known n vs ≡ true → (v : ℕ) → has vs v ≡ true → v < n
 is_known n [] h v k = grind arith

@@ -5,3 +5,6 @@ pub mod Tables
 pub mod Processed
 pub mod Sources
 pub mod Going
+pub mod Laying
+pub mod Staying
+pub mod Sounds

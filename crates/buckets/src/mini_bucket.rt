@@ -5,6 +5,7 @@ ghost use Rattle.problems.specs.Records.{placed_of, nth};
 ghost use Rattle.buckets.specs.Listed.{listed};
 ghost use Rattle.buckets.specs.Made.{SameMessages};
 ghost use Rattle.buckets.specs.Sources.{mini_bucket_rules, messages};
+ghost use Rattle.buckets.specs.Sounds.{mini_bucket_sound};
 
 pub use crate::plain::MiniBucket;
 use crate::plain::{Lying, Made, Plan, Records};
@@ -82,6 +83,8 @@ impl Plan {
 
 impl<C: Cost> FloorSource<C> for MiniBucket {
     ghost rules = { mini_bucket_rules C.Cost.structure };
+
+    ghost sound = { mini_bucket_sound C.Cost.structure C.Cost.lawful };
 
     fn suits(&self, shape: &Shape) -> bool {
         suits(self.width, &Records::of(shape))

@@ -60,7 +60,7 @@ module _ (d : Document) (o : Outline) (area s : List ℕ) (same : o ≡ outlined
       is ∙ ap₂ (λ (x y : List ℕ). x ++ y) head (ap₂ (λ (x y : List ℕ). x ++ y) lines tail)
 
 -- a title that is there
-pub title_is : (o : Option (Bor (List ℕ))) (r : Bor (List ℕ)) (x : List ℕ) → option_map ((λ x. x.now) {X = List ℕ}) o ≡ Some x → (unwrap_or o r).now ≡ x
+pub title_is : (o : Option (Bor (List ℕ))) (r : Bor (List ℕ)) (x : List ℕ) → option_map (λ (x : Bor (List ℕ)). x.now) o ≡ Some x → (unwrap_or o r).now ≡ x
 title_is None r x h = grind arith
 title_is (Some y) r x h = cc
 

@@ -5,6 +5,6 @@ use Rattle.words.specs.Words.{Word}
 use Rattle.words.specs.Readings.{rest_of}
 use Rattle.scripts.specs.Lines.{first_word}
 
-pub fewer : (ws ws' : List Word) (r : Option (Bor (List ℕ))) (w : Bor (List ℕ)) → option_map ((λ x. x.now) {X = List ℕ}) r ≡ first_word ws → r ≡ Some w → ws' ≡ rest_of ws → length ws' < length ws
-fewer [] ws' r w read is moved = absurd (let z : option_map ((λ x. x.now) {X = List ℕ}) (Some w) ≡ None = rw is at read in grind arith)
+pub fewer : (ws ws' : List Word) (r : Option (Bor (List ℕ))) (w : Bor (List ℕ)) → option_map (λ (x : Bor (List ℕ)). x.now) r ≡ first_word ws → r ≡ Some w → ws' ≡ rest_of ws → length ws' < length ws
+fewer [] ws' r w read is moved = absurd (let z : option_map (λ (x : Bor (List ℕ)). x.now) (Some w) ≡ None = rw is at read in grind arith)
 fewer (x ∷ ws) ws' r w read is moved = rw moved (omega arith)

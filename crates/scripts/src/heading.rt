@@ -10,7 +10,7 @@ use words::reader::Reader;
 
 // costs sum|worst|ranked
 pub(crate) fn kind_line(line: &mut Line) -> Result<Kind, Flaw> {
-    if line.name != b"costs" {
+    if line.name != b"costs".as_slice() {
         return Err(Flaw::Costs);
     }
     let kind = match word(&mut line.rest) {
@@ -25,7 +25,7 @@ pub(crate) fn kind_line(line: &mut Line) -> Result<Kind, Flaw> {
 
 // source paid | source first-choice | source mini-bucket W
 pub(crate) fn source_line(line: &mut Line) -> Result<SourceName, Flaw> {
-    if line.name != b"source" {
+    if line.name != b"source".as_slice() {
         return Err(Flaw::Source);
     }
     let source = match word(&mut line.rest) {
@@ -48,7 +48,7 @@ pub(crate) fn cost<C: Written>(words: &mut Reader) -> Result<C, Flaw> {
 
 // areas LENGTH... [of COST]
 pub(crate) fn areas_line<C: Written>(heap: Global, line: &mut Line) -> Result<Areas<C>, Flaw> {
-    if line.name != b"areas" {
+    if line.name != b"areas".as_slice() {
         return Err(Flaw::Areas);
     }
     let areas: Areas<C> = lent(heap, &mut line.rest)?;
@@ -62,7 +62,7 @@ pub(crate) fn areas_line<C: Written>(heap: Global, line: &mut Line) -> Result<Ar
 fn lent<C: Written>(heap: Global, words: &mut Reader) -> Result<Areas<C>, Flaw> {
     let mut lengths = Vec::new(heap);
     while let Some(next) = word(words) {
-        if next == b"of" {
+        if next == b"of".as_slice() {
             let content = cost(words)?;
             end(words)?;
             return Ok(Areas { lengths, content });

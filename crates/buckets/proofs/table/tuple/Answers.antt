@@ -36,7 +36,7 @@ nonzero_rem-left c = item_size c.args.sizes.now c.args.scope.now c.args.cell c.v
 pub overflow_cast-left : goal.overflow_cast-left
 overflow_cast-left c =
     let some = item_size c.args.sizes.now c.args.scope.now c.args.cell c.variables-variables.result.now c.variables-variables.ensures c.requires c.loop-k.k c.size-size.result c.loop-k-test.true c.loop-k.auto.k c.size-size.ensures in
-    Fits-below {n = 255} tt (omega (arith, mod-lt c.loop-k.left some, c.size-size.type-inv))
+    Fits-below {n = 255} tt (omega (arith, mod-lt c.loop-k.left some, c.size-size.type_inv))
 
 pub nonzero_div-left : goal.nonzero_div-left
 nonzero_div-left c = item_size c.args.sizes.now c.args.scope.now c.args.cell c.variables-variables.result.now c.variables-variables.ensures c.requires c.loop-k.k c.size-size.result c.loop-k-test.true c.loop-k.auto.k c.size-size.ensures

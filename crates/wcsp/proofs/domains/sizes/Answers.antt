@@ -21,7 +21,7 @@ returns-in_err-size c =
     let text = text_of c.args.reader.now in
     let max = c.args.largest in
     let read = ap (λ t. one t max [] (left_of l.reader)) (sym l.invariant.0) ∙ c.in_err-size.ensures.read in
-    let broken = one_fault (sizes_from (length text) max) (one text max) (λ _ _ _. refl) c.args.count l.-v (sizes_of l.sizes) (left_of l.reader) c.in_err-size.field-0.0 (omega arith) read in
+    let broken = one_fault (sizes_from (length text) max) (one text max) (λ _ _ _. refl) c.args.count l._v (sizes_of l.sizes) (left_of l.reader) c.in_err-size.field-0.0 (omega arith) read in
     record { kept = c.in_err-size.ensures.kept ∙ l.invariant.0; read = rw (p.1, p.2) (sym l.invariant.2 ∙ broken) }
 
 pub loop-v-preserved : goal.loop-v-preserved
@@ -31,8 +31,8 @@ loop-v-preserved c =
     let max = c.args.largest in
     let got = c.in_ok-size.ensures.read in
     let read = ap (λ t. one t max [] (left_of l.reader)) (sym l.invariant.0) ∙ got.1 in
-    let more = one_more (sizes_from (length text) max) (one text max) (λ _ _ _. refl) c.args.count l.-v (sizes_of l.sizes) (left_of l.reader) got.0 (left_of c.size.new.reader) (omega arith) read in (
+    let more = one_more (sizes_from (length text) max) (one text max) (λ _ _ _. refl) c.args.count l._v (sizes_of l.sizes) (left_of l.reader) got.0 (left_of c.size.new.reader) (omega arith) read in (
       c.in_ok-size.ensures.kept ∙ l.invariant.0,
       ap length got.2 ∙ length_push (sizes_of l.sizes) got.0 ∙ ap (λ n. n + 1) l.invariant.1,
-      ap (λ done. sizes_from (length text) max (c.args.count - (l.-v + 1)) done (left_of c.size.new.reader)) got.2 ∙ sym more ∙ l.invariant.2,
+      ap (λ done. sizes_from (length text) max (c.args.count - (l._v + 1)) done (left_of c.size.new.reader)) got.2 ∙ sym more ∙ l.invariant.2,
     )

@@ -8,6 +8,6 @@ use Rattle.wcsp.proofs.domains.sizes.Given as goal
 abbrev pub invariant-loop-v : goal.invariant-loop-v
 invariant-loop-v l =
     (text_of l.reader ≡ text_of l.initial.reader) ×
-    (length (sizes_of l.sizes) ≡ l.-v) ×
-    (sizes_from (length (text_of l.initial.reader)) l.largest (l.count - l.-v) (sizes_of l.sizes) (left_of l.reader)
+    (length (sizes_of l.sizes) ≡ l._v) ×
+    (sizes_from (length (text_of l.initial.reader)) l.largest (l.count - l._v) (sizes_of l.sizes) (left_of l.reader)
     ≡ sizes_from (length (text_of l.initial.reader)) l.largest l.count [] (left_of l.initial.reader))

@@ -38,7 +38,7 @@ returns-in_err-entry c =
     let p = err_from_is_err_and c.from_residual.result c.from_residual.ensures.1 in
     let l = c.loop-k in
     let area = c.args.area.now in
-    let broken = entries_fault (text_of l.reader) (text_of c.args.reader.now) l.area area (outline l.shape) (outline c.args.shape.now) l.invariant.1.0 c.args.count l.-k (left_of l.reader)
+    let broken = entries_fault (text_of l.reader) (text_of c.args.reader.now) l.area area (outline l.shape) (outline c.args.shape.now) l.invariant.1.0 c.args.count l._k (left_of l.reader)
     l.invariant.0 l.auto.area l.invariant.1.2 (omega arith) c.in_err-entry.field-0.0 c.in_err-entry.ensures.read in
     record {
       kept = c.in_err-entry.ensures.kept ∙ l.invariant.0;
@@ -59,13 +59,13 @@ loop-k-preserved c =
     let words = left_of l.reader in
     let count = c.args.count in
     let got = c.in_ok-entry.ensures.read in
-    let more = entries_more text text₀ l.area area o o₀ done count l.-k words l.invariant.0 l.auto.area l.invariant.1.2 (omega arith) o' got.0 (left_of c.entry.new.reader) got.1 got.2.0 in
-    let behind = laid_behind text text₀ l.area area o o₀ done count l.-k words l.invariant.0 l.auto.area l.invariant.1.2 (omega arith) got.0 c.requires.used in (
+    let more = entries_more text text₀ l.area area o o₀ done count l._k words l.invariant.0 l.auto.area l.invariant.1.2 (omega arith) o' got.0 (left_of c.entry.new.reader) got.1 got.2.0 in
+    let behind = laid_behind text text₀ l.area area o o₀ done count l._k words l.invariant.0 l.auto.area l.invariant.1.2 (omega arith) got.0 c.requires.used in (
       c.in_ok-entry.ensures.kept ∙ l.invariant.0,
       (
         done ++ got.0 ∷ [],
         sym more ∙ l.invariant.1.1,
-        outline_more text text₀ l.area area o o₀ done count l.-k words l.invariant.0 l.auto.area l.invariant.1.2 (omega arith) o' got.0 got.2.0,
+        outline_more text text₀ l.area area o o₀ done count l._k words l.invariant.0 l.auto.area l.invariant.1.2 (omega arith) o' got.0 got.2.0,
         length_push done got.0 ∙ ap (λ n. n + 1) l.invariant.1.3,
         pass_more c.args.pass area l.area c.entry.new.area (laid area o₀.used (tables o₀.sizes done)) (λ a. laid a o.used (table_of o.sizes got.0)) l.invariant.1.4 got.2.1 ∙ ap (by_pass c.args.pass area) behind,
       ),

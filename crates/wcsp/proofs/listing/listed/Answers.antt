@@ -23,7 +23,7 @@ returns-in_err-listing c =
     let scope = scope_of c.args.scope.now in
     let words = left_of l.reader in
     let read = ap (λ t. one t sizes scope [] words) (sym l.invariant.0) ∙ c.in_err-listing.ensures.read in
-    let broken = one_fault (listed_from (length text) sizes scope) (one text sizes scope) (λ _ _ _. refl) c.args.count l.-k l.invariant.1.0 words c.in_err-listing.field-0.0 (omega arith) read in
+    let broken = one_fault (listed_from (length text) sizes scope) (one text sizes scope) (λ _ _ _. refl) c.args.count l._k l.invariant.1.0 words c.in_err-listing.field-0.0 (omega arith) read in
     record {
       kept = c.in_err-listing.ensures.kept ∙ l.invariant.0;
       checked = λ e. c.in_err-listing.ensures.checked e ∙ pass_checked c.args.pass c.args.table.now l.table _ l.invariant.1.2 e;
@@ -42,7 +42,7 @@ loop-k-preserved c =
     let got = c.in_ok-listing.ensures.read in
     let left = left_of c.listing.new.reader in
     let read = ap (λ t. one t sizes scope [] words) (sym l.invariant.0) ∙ got.1 in
-    let more = one_more (listed_from (length text) sizes scope) (one text sizes scope) (λ _ _ _. refl) c.args.count l.-k done words got.0 left (omega arith) read in (
+    let more = one_more (listed_from (length text) sizes scope) (one text sizes scope) (λ _ _ _. refl) c.args.count l._k done words got.0 left (omega arith) read in (
       c.in_ok-listing.ensures.kept ∙ l.invariant.0,
       (
         done ++ got.0 ∷ [],

@@ -11,6 +11,6 @@ abbrev pub invariant-loop-k : goal.invariant-loop-k
 invariant-loop-k l =
     (text_of l.reader ≡ text_of l.initial.reader) ×
     ((done : List Listed) ×
-    (listed_from (length (text_of l.initial.reader)) (sizes_of l.sizes) (scope_of l.scope) (l.count - l.-k) done (left_of l.reader)
+    (listed_from (length (text_of l.initial.reader)) (sizes_of l.sizes) (scope_of l.scope) (l.count - l._k) done (left_of l.reader)
     ≡ listed_from (length (text_of l.initial.reader)) (sizes_of l.sizes) (scope_of l.scope) l.count [] (left_of l.initial.reader)) ×
     (l.table ≡ by_pass l.pass l.initial.table (amended (sizes_of l.sizes) (scope_of l.scope) l.initial.table done)))

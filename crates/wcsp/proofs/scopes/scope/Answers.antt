@@ -25,7 +25,7 @@ returns-in_err-variable c =
     let n = length (sizes_of c.args.sizes.now) in
     let scope = scope_of l.scope in
     let read = ap (λ t. one t n scope (left_of l.reader)) (sym l.invariant.0) ∙ c.in_err-variable.ensures.read in
-    let broken = one_fault (scope_from (length text) n) (one text n) (λ _ _ _. refl) c.args.arity l.-k scope (left_of l.reader) c.in_err-variable.field-0.0 (omega arith) read in
+    let broken = one_fault (scope_from (length text) n) (one text n) (λ _ _ _. refl) c.args.arity l._k scope (left_of l.reader) c.in_err-variable.field-0.0 (omega arith) read in
     record { kept = c.in_err-variable.ensures.kept ∙ l.invariant.0; read = rw (p.1, p.2) (sym l.invariant.2 ∙ broken) }
 
 pub loop-k-preserved : goal.loop-k-preserved
@@ -37,11 +37,11 @@ loop-k-preserved c =
     let got = c.in_ok-variable.ensures.read in
     let left = left_of c.variable.new.reader in
     let read = ap (λ t. one t n scope (left_of l.reader)) (sym l.invariant.0) ∙ got.1 in
-    let more = one_more (scope_from (length text) n) (one text n) (λ _ _ _. refl) c.args.arity l.-k scope (left_of l.reader) got.0 left (omega arith) read in
+    let more = one_more (scope_from (length text) n) (one text n) (λ _ _ _. refl) c.args.arity l._k scope (left_of l.reader) got.0 left (omega arith) read in
     let few : length scope < 5 = omega arith in
     let rule = rule_kept (length text) (variable_rule n scope) (left_of l.reader) got.0 left read in (
       c.in_ok-variable.ensures.kept ∙ l.invariant.0,
       ap length got.2 ∙ length_push scope got.0 ∙ ap (λ k. k + 1) l.invariant.1,
-      ap (λ done. scope_from (length text) n (c.args.arity - (l.-k + 1)) done left) got.2 ∙ sym more ∙ l.invariant.2,
+      ap (λ done. scope_from (length text) n (c.args.arity - (l._k + 1)) done left) got.2 ∙ sym more ∙ l.invariant.2,
       ap (proper n) got.2 ∙ still_proper n scope got.0 few l.invariant.3 rule,
     )

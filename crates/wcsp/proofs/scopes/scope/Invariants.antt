@@ -9,7 +9,7 @@ use Rattle.wcsp.proofs.scopes.scope.Given as goal
 abbrev pub invariant-loop-k : goal.invariant-loop-k
 invariant-loop-k l =
     (text_of l.reader ≡ text_of l.initial.reader) ×
-    (length (scope_of l.scope) ≡ l.-k) ×
-    (scope_from (length (text_of l.initial.reader)) (length (sizes_of l.sizes)) (l.arity - l.-k) (scope_of l.scope) (left_of l.reader)
+    (length (scope_of l.scope) ≡ l._k) ×
+    (scope_from (length (text_of l.initial.reader)) (length (sizes_of l.sizes)) (l.arity - l._k) (scope_of l.scope) (left_of l.reader)
     ≡ scope_from (length (text_of l.initial.reader)) (length (sizes_of l.sizes)) l.arity [] (left_of l.initial.reader)) ×
     (proper (length (sizes_of l.sizes)) (scope_of l.scope) ≡ true)

@@ -72,8 +72,8 @@ returns g c =
     let end : length fs ≤ c.loop-k.k = omega (arith, used_length placed_of reach s.made.records.records room, c.loop-k-test.false, ap (λ m. get_or s.made.reach m 0) c.len-len.ensures) in
     let sum = all_picked K o.sizes area (of values) s.lying.buckets n fs c.loop-k.sum c.loop-k.k _ end c.loop-k.invariant in
     record {
-      told = λ le notes formed fits. sum ∙ mini_told K L o area formed values n le fits s c.args.-at notes;
+      told = λ le notes formed fits. sum ∙ mini_told K L o area formed values n le fits s c.args._at notes;
       low = λ le notes suits formed fits t full begins.
-          subst (λ (r : g.row.C.Denot). K.at_most r (cost K p t) ≡ true) (sym (sum ∙ mini_told K L o area formed values n le fits s c.args.-at notes))
+          subst (λ (r : g.row.C.Denot). K.at_most r (cost K p t) ≡ true) (sym (sum ∙ mini_told K L o area formed values n le fits s c.args._at notes))
           (admissible L p (shaped p formed) (mini_bucket_floor K s.width p) (mini_bucket_climbs L p (shaped p formed) s.width) (given K L o area formed values n le) t fits.0 full begins);
     }

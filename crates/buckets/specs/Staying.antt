@@ -12,8 +12,7 @@ use Rattle.buckets.specs.declared.plain.MiniBucket.{MiniBucket}
 use Rattle.buckets.specs.Made.{scopes_made, all_cells}
 use Rattle.buckets.specs.Processed.{scopes_of}
 use Rattle.buckets.specs.Sources.{Kept, mini_room, mini_suits, all_placed}
-use Rattle.buckets.proofs.Laying.{placed_laid}
-use Rattle.buckets.proofs.Making.{laid_ends}
+use Rattle.buckets.specs.Laying.{placed_laid, laid_ends}
 
 module _ {C : Type 0} where
   -- a part of two areas that agree cell by cell there

@@ -37,6 +37,11 @@ out_laid : (sizes : List ℕ) (p at to : ℕ) (ss : List (List ℕ)) → to ≡ 
 out_laid sizes p at to [] e = eq-eqb at to (omega arith)
 out_laid sizes p at to (s ∷ ss) e = and_from (eqb at at) _ (eq-eqb at at refl) (out_laid sizes p (at + cells sizes s) to ss (omega arith))
 
+-- where tables that are laid out end
+pub laid_ends : (sizes : List ℕ) (from to : ℕ) (fs : List Placed) → laid_from sizes from fs to ≡ true → to ≡ from + all_cells sizes (scopes_of fs)
+laid_ends sizes from to [] h = omega (arith, eqb-true from to h)
+laid_ends sizes from to (f ∷ fs) h = omega (arith, laid_ends sizes (from + cells sizes f.scope) to fs (and_parts (eqb f.start from) _ h).1)
+
 -- tables that are laid out end before the last one's end
 pub laid_below : (sizes : List ℕ) (a b : ℕ) (fs : List Placed) → laid_from sizes a fs b ≡ true → Below sizes b fs
 laid_below sizes a b [] h = tt
