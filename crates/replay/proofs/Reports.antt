@@ -6,7 +6,7 @@ use Rattle.problems.specs.Problems.{Problem, cost}
 use Rattle.problems.specs.Outlines.{problem}
 use Rattle.floors.specs.Rules.{Rules, Sound}
 use Rattle.search.specs.Searches.{Search}
-use Rattle.search.specs.Finds.{Best, NoneBelow, setting, prefixes}
+use Rattle.search.specs.Finds.{Best, NothingBelow, setting, prefixes}
 use Rattle.search.proofs.Results.{visits_are_few, incumbent_is_real, best_is_found, none_is_below, bottom_is_below}
 use Rattle.jobs.specs.declared.stage.Stage.{Stage}
 use Rattle.jobs.specs.declared.stage.Stage.TheVariants.{Closed, Draft, Running, Ended}
@@ -24,10 +24,10 @@ module _ {C : Type 0} (K : Structure C) where
   -- what a search has found out of a problem, below a limit and with a bottom
   pub record Found (limit bottom : C) (budgets : ℕ) (end : Bool) (s : Search C) (p : Problem C) : Type 0 where
     pub best : end ≡ true → (y : List ℕ) → s.spot.incumbent ≡ Some y → Best K p limit s.bar (setting p y)
-    pub none : end ≡ true → s.spot.incumbent ≡ None → NoneBelow K p limit
+    pub none : end ≡ true → s.spot.incumbent ≡ None → NothingBelow K p limit
     pub real : (y : List ℕ) → s.spot.incumbent ≡ Some y → Full p.sizes (setting p y) × (s.bar ≡ cost K p (setting p y)) × (cheaper K s.bar limit ≡ true)
     pub less : end ≡ false → budgets < prefixes p.sizes p.order
-    pub low : NoneBelow K p bottom
+    pub low : NothingBelow K p bottom
 
   verdict_so : (m : Model C) (stage : Stage) (s : Search C) (bottom : C) (buffer : List ℕ) (found : Option (List ℕ)) → s.spot.incumbent ≡ found → prepared stage ≡ true
       → Found m.limit bottom m.budgets (is_ended stage) s m.problem → VerdictHolds K m (verdict_of stage found) s.bar (written m.problem found buffer)

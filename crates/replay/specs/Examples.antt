@@ -3,7 +3,7 @@ use Rattle.std.specs.Prelude.{◌≡◌, ℕ, List, [], ◌∷◌, vec_items, Ve
 use Rattle.std.specs.declared.alloc.Global.{Global}
 use Rattle.costs.specs.Structures.{Structure}
 use Rattle.problems.specs.Problems.{Problem}
-use Rattle.search.specs.Finds.{Best, NoneBelow}
+use Rattle.search.specs.Finds.{Best, NothingBelow}
 use Rattle.jobs.specs.declared.answer.Stepped.{Stepped as Moved}
 use Rattle.jobs.specs.declared.answer.Verdict.TheVariants.{Best as BestShown, NoneBelow}
 use Rattle.jobs.specs.declared.answer.Report.{Report as Told}
@@ -33,4 +33,4 @@ module _ {C : Type 0} where
 abbrev pub PromiseIsMeant : Type 0 → Type 0
 PromiseIsMeant C = (K : Structure C) (sizes order : Vec ℕ Global) (limit : C) (budget : ℕ) (area buffer : Part) (moved : Moved) (told : Told C) (shown : Shown) →
     Promise K (four_calls sizes order limit budget area buffer) (four_answers moved told shown)
-    → (told.verdict ≡ BestShown → Best K (bare sizes order) limit told.cost (shown_of shown)) × (told.verdict ≡ NoneBelow → NoneBelow K (bare sizes order) limit)
+    → (told.verdict ≡ BestShown → Best K (bare sizes order) limit told.cost (shown_of shown)) × (told.verdict ≡ NoneBelow → NothingBelow K (bare sizes order) limit)

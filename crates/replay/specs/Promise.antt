@@ -3,7 +3,7 @@ use Rattle.std.specs.Prelude.{◌≡◌, ℕ, ◌<◌, ◌≤◌, min, true, Lis
 use Rattle.costs.specs.Structures.{Structure, Same, cheaper}
 use Rattle.variables.specs.Assignments.{Full}
 use Rattle.problems.specs.Problems.{cost}
-use Rattle.search.specs.Finds.{Best, NoneBelow, prefixes}
+use Rattle.search.specs.Finds.{Best, NothingBelow, prefixes}
 use Rattle.jobs.specs.declared.stage.Stage.{Stage}
 use Rattle.jobs.specs.declared.stage.Stage.TheVariants.{Closed, Draft, Running, Ended}
 use Rattle.jobs.specs.declared.answer.Verdict.{Verdict}
@@ -36,13 +36,13 @@ module _ {C : Type 0} (K : Structure C) where
   abbrev pub VerdictHolds : Model C → Verdict → C → List ℕ → Type 0
   VerdictHolds m BestShown shown s = Best K m.problem m.limit shown s
   VerdictHolds m SoFar shown s = Real m shown s × Unfinished m
-  VerdictHolds m NoneBelow shown s = NoneBelow K m.problem m.limit
+  VerdictHolds m NoneBelow shown s = NothingBelow K m.problem m.limit
   VerdictHolds m NothingYet shown s = Unfinished m
 
   -- the verdict holds, no full setting is below the bottom, and the visits are those that the steps answered
   pub record Honest (m : Model C) (r : Told C) (s : List ℕ) : Type 0 where
     pub verdict : VerdictHolds m r.verdict r.cost s
-    pub bottom : NoneBelow K m.problem r.bottom
+    pub bottom : NothingBelow K m.problem r.bottom
     pub visits : r.visits ≡ min m.visits most_shown
 
   -- a step leaves the job Running, then unfinished, or Ended

@@ -10,7 +10,7 @@ use Rattle.floors.specs.Shapes.{Shaped, shaped}
 use Rattle.floors.specs.Climbs.{admissible}
 use Rattle.floors.specs.Admissions.{paid_climbs}
 use Rattle.search.specs.Searches.{Search, started, size_at, ended}
-use Rattle.search.specs.Finds.{setting, prefixes, Best, NoneBelow}
+use Rattle.search.specs.Finds.{setting, prefixes, Best, NothingBelow}
 use Rattle.search.specs.Theorems.{Granted, Reached, VisitsAreFew, IncumbentIsReal, BestIsFound, NoneIsBelow, BottomIsBelow, SteadyThroughout, PaidIsGranted}
 use Rattle.search.proofs.Points.{Point, point_in_order, full_setting, in_order_setting, cost_in_order, cost_setting}
 use Rattle.search.proofs.Positions.{Older, left_more}
@@ -59,7 +59,7 @@ module _ {C : Type 0} {K : Structure C} {p : Problem C} {floor : List ℕ → C}
             (grind (arith, stands.3 (in_order p.order t) (point_in_order form t full), cost_in_order form K t, same, G.lawful.total s.bar s.bar, G.lawful.order_stands));
       }
 
-  pub none : ended p.sizes p.order s.spot ≡ true → s.spot.incumbent ≡ None → NoneBelow K p limit
+  pub none : ended p.sizes p.order s.spot ≡ true → s.spot.incumbent ≡ None → NothingBelow K p limit
   none end e t full =
       let bar = unfound e in
       grind (arith, nothing_cheaper end t full)

@@ -29,5 +29,5 @@ pub record Best {C : Type 0} (K : Structure C) (p : Problem C) (limit shown : C)
   pub earliest : (t : List ℕ) → Full p.sizes t → Same K (cost K p t) shown → earlier (in_order p.order t) (in_order p.order s) ≡ false
 
 -- no full setting is below a bound
-abbrev pub NoneBelow : {C : Type 0} → Structure C → Problem C → C → Type 0
-NoneBelow K p bound = (t : List ℕ) → Full p.sizes t → cheaper K (cost K p t) bound ≡ false
+abbrev pub NothingBelow : {C : Type 0} → Structure C → Problem C → C → Type 0
+NothingBelow K p bound = (t : List ℕ) → Full p.sizes t → cheaper K (cost K p t) bound ≡ false

@@ -6,7 +6,7 @@ use Rattle.problems.specs.Problems.{Problem, cost}
 use Rattle.floors.specs.Settings.{Formed}
 use Rattle.floors.specs.Floors.{Admissible, paid_floor}
 use Rattle.search.specs.Searches.{Search, started, ended, steady, ran}
-use Rattle.search.specs.Finds.{setting, prefixes, Best, NoneBelow}
+use Rattle.search.specs.Finds.{setting, prefixes, Best, NothingBelow}
 
 -- what a search is granted: a lawful cost structure, a formed problem with a variable, and admissible floors
 pub record Granted {C : Type 0} (K : Structure C) (p : Problem C) (floor : List ℕ → C) : Type 0 where
@@ -37,11 +37,11 @@ BestIsFound C = (K : Structure C) (p : Problem C) (floor : List ℕ → C) → G
 -- a search that ended without an incumbent shows that no setting is below the limit
 abbrev pub NoneIsBelow : Type 0 → Type 0
 NoneIsBelow C = (K : Structure C) (p : Problem C) (floor : List ℕ → C) → Granted K p floor → (limit : C) (k visits : ℕ) (s : Search C) → Reached K p floor limit k visits s
-    → ended p.sizes p.order s.spot ≡ true → s.spot.incumbent ≡ None → NoneBelow K p limit
+    → ended p.sizes p.order s.spot ≡ true → s.spot.incumbent ≡ None → NothingBelow K p limit
 
 -- no setting is below the floor of the empty prefix
 abbrev pub BottomIsBelow : Type 0 → Type 0
-BottomIsBelow C = (K : Structure C) (p : Problem C) (floor : List ℕ → C) → Admissible K p floor → NoneBelow K p (floor [])
+BottomIsBelow C = (K : Structure C) (p : Problem C) (floor : List ℕ → C) → Admissible K p floor → NothingBelow K p (floor [])
 
 -- a budget of j visits and then one of k come to what one of j + k does
 abbrev pub RunsCompose : Type 0 → Type 0
