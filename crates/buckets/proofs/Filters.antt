@@ -5,7 +5,6 @@ use Rattle.std.proofs.lemmas.Bool.{cond_both, cases_Bool, cases_eq, or_left, or_
 use Rattle.std.proofs.lemmas.Bool.Decides.{nat_tests}
 use Rattle.variables.specs.Lists.{has}
 use Rattle.floors.specs.Settings.{kept}
-use Rattle.floors.specs.MiniBuckets.{variables}
 use Rattle.floors.specs.ByNumber.{place_from, bucket_of}
 use Rattle.floors.specs.Scopes.{has_first}
 

@@ -2,7 +2,7 @@
 use Rattle.std.proofs.Common.{◌≡◌, ℕ, suc, ◌+◌, ◌-◌, ◌<◌, ◌≤◌, Bool, true, false, not, ◌||◌, eqb, List, [], ◌∷◌, ◌++◌, map, length, get_or, take, drop, sym, refl, ap, ◌∙◌, ap₂, inl, inr, arith}
 use Rattle.std.proofs.lemmas.List.{length-append, append_assoc, append-nil, length-take-le, length-drop, take_at, drop_at, take-take, drop-drop, map_push, append_cancel_left}
 use Rattle.std.proofs.ByRecursion.{All-weaker}
-use Rattle.std.proofs.lemmas.Bool.{and_parts, eqb-true, cases_Bool, or_left, or_right}
+use Rattle.std.proofs.lemmas.Bool.{cases_Bool, or_left, or_right}
 use Rattle.std.proofs.lemmas.Bool.Decides.{nat_tests}
 use Rattle.costs.specs.Structures.{Structure}
 use Rattle.variables.specs.Lists.{has}
@@ -12,7 +12,7 @@ use Rattle.problems.specs.Records.{Placed, function_in, laid_from}
 use Rattle.problems.proofs.Placements.{laid_push}
 use Rattle.problems.proofs.Tables.{same_part, same_below}
 use Rattle.floors.specs.Settings.{kept}
-use Rattle.floors.specs.MiniBuckets.{variables, split_from, message, tabulate, eliminated}
+use Rattle.floors.specs.MiniBuckets.{split_from, message, tabulate, eliminated}
 use Rattle.floors.specs.ByNumber.{bucket_of, lies_in, bucket_messages}
 use Rattle.floors.specs.Scopes.{has_kept}
 use Rattle.floors.specs.Tables.{tabulate_length}

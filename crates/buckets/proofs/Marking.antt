@@ -5,7 +5,7 @@ use Rattle.std.proofs.lemmas.Bool.{cases_eq, eq-eqb, ne_eqb, not-true}
 use Rattle.std.proofs.lemmas.Bool.Decides.{nat_tests}
 use Rattle.variables.specs.Lists.{has}
 use Rattle.problems.specs.Records.{Placed}
-use Rattle.variables.specs.Rules.{chosen, barred, proper}
+use Rattle.variables.specs.Rules.{chosen, barred}
 use Rattle.variables.specs.Refusals.{Answers}
 use Rattle.variables.specs.declared.refusal.Refusal.{Refusal}
 use Rattle.variables.proofs.Listings.{chosen_push, known_append, distinct_front}

@@ -8,7 +8,7 @@ use Rattle.variables.specs.Assignments.{Assignment, of, cells, cell_from}
 use Rattle.floors.specs.Settings.{assign}
 use Rattle.floors.specs.Scopes.{cell_agree}
 use Rattle.buckets.proofs.Bounds.{getD_has}
-use Rattle.floors.specs.Tables.{cell, horner}
+use Rattle.floors.specs.Tables.{horner}
 
 pub of_set : (xs : List ℕ) (v c : ℕ) → v < length xs → of (set xs v c) ≡ assign (of xs) v c
 of_set xs v c l = fun_ext here

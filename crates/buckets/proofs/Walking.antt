@@ -15,7 +15,6 @@ use Rattle.floors.specs.ByNumber.{bucket_messages}
 use Rattle.floors.specs.Shapes.{Distinct, Known}
 use Rattle.floors.specs.Covers.{at_most}
 use Rattle.buckets.specs.Going.{Able, Spacious, Gone}
-use Rattle.buckets.specs.Joining.{names}
 use Rattle.buckets.specs.Made.{bucket_made, scopes_from, scopes_made, all_cells, laid_out, placed_made}
 use Rattle.buckets.specs.Processed.{scopes_of, Ready, Roomy, Processed}
 use Rattle.buckets.proofs.Filters.{map_map}

@@ -1,5 +1,5 @@
 -- Mini-bucket keeps what is asked of a source of floors.
-use Rattle.std.proofs.Common.{List, length, sym, ap, ◌∙◌}
+use Rattle.std.proofs.Common.{length, sym, ap, ◌∙◌}
 use Rattle.costs.specs.Structures.{Structure, Lawful}
 use Rattle.problems.specs.Problems.{Problem}
 use Rattle.problems.specs.Outlines.{problem}

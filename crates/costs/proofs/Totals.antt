@@ -1,5 +1,5 @@
 -- Costs combined one after the other.
-use mathlib.Core.Path.{◌≡◌, refl, sym, ap, ◌∙◌}
+use mathlib.Core.Path.{◌≡◌, refl, sym, ◌∙◌}
 use mathlib.Core.List.{List, [], ◌∷◌}
 use Rattle.costs.specs.Structures.{Structure, Lawful, total}
 

@@ -1,5 +1,5 @@
 -- Cost structures: what costs are, the laws that they keep, and what is made of several costs.
-use Rattle.std.specs.Prelude.{◌≡◌, Bool, true, cond, not, ◌⊎◌, List, [], ◌∷◌}
+use Rattle.std.specs.Prelude.{◌≡◌, Bool, true, not, ◌⊎◌, List, [], ◌∷◌}
 
 -- What the contents of a cell mean. Several contents may mean one cost: `stands c` is the cost that the content c stands for.
 pub record Structure (C : Type 0) : Type 0 where

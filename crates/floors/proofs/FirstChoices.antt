@@ -1,5 +1,5 @@
 -- A loop over the functions that combines the least cost of each comes to First choice's floor.
-use Rattle.std.proofs.Common.{◌≡◌, ℕ, zero, suc, ◌+◌, ◌<◌, ◌≤◌, Bool, true, false, cond, eqb, leb, ◌⊎◌, List, [], ◌∷◌, map, length, get_or, take, drop, Some, None, Option, sym, refl, ap, ◌∙◌, subst, ap₂, inl, inr, add-one, arith}
+use Rattle.std.proofs.Common.{◌≡◌, ℕ, zero, suc, ◌+◌, ◌<◌, ◌≤◌, true, false, eqb, leb, ◌⊎◌, List, [], ◌∷◌, map, length, get_or, take, drop, Some, sym, refl, ap, ◌∙◌, subst, ap₂, inl, inr, add-one, arith}
 use Rattle.std.proofs.lemmas.List.{drop_all}
 use Rattle.std.proofs.lemmas.Bool.{cases_Bool, or_right}
 use Rattle.std.proofs.lemmas.Bool.Decides.{nat_tests}
@@ -7,7 +7,7 @@ use Rattle.costs.specs.Structures.{Structure, Lawful, total}
 use Rattle.costs.proofs.Totals.{folded, folded_total}
 use Rattle.variables.specs.Lists.{has}
 use Rattle.variables.specs.Assignments.{Assignment, of, along}
-use Rattle.problems.specs.Problems.{Function, Problem, cost_at}
+use Rattle.problems.specs.Problems.{Function, cost_at}
 use Rattle.problems.specs.Records.{Placed, nth, held, function_in}
 use Rattle.problems.specs.Outlines.{Outline, problem}
 use Rattle.problems.proofs.Bounds.{held_there}

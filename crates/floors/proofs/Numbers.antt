@@ -8,14 +8,14 @@ use Rattle.std.proofs.lemmas.Bool.Decides.{nat_tests}
 use Rattle.costs.specs.Structures.{Structure, Lawful, total}
 use Rattle.floors.specs.Leasts.{lesser, least_of}
 use Rattle.variables.specs.Lists.{has}
-use Rattle.variables.specs.Assignments.{Full, Assignment, along}
+use Rattle.variables.specs.Assignments.{Assignment, along}
 use Rattle.problems.specs.Problems.{Function, Problem, cost_at}
 use Rattle.floors.specs.Settings.{assign, values, upto, kept, costs_at}
 use Rattle.floors.specs.Shapes.{Shaped, Distinct}
 use Rattle.floors.specs.MiniBuckets.{flat, message, split_from, left, mini_bucket_floor}
 use Rattle.floors.specs.Floors.{within, paid_floor, cheapest, first_choice_floor}
 use Rattle.floors.specs.ByNumber.{place_from, bucket_of, lies_in, bucket_messages, bucket_left, bucket_floor, bucket_paid_floor, agreeing, listed_choice_floor}
-use Rattle.floors.specs.Scopes.{upto_has, has_first, Within, within_head, within_tail}
+use Rattle.floors.specs.Scopes.{has_first, Within, within_head, within_tail}
 use Rattle.floors.specs.Eliminations.{left_within}
 use Rattle.floors.specs.Covers.{covered, known_has}
 use Rattle.floors.specs.Climbs.{take_in}

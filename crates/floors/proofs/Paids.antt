@@ -1,24 +1,23 @@
 -- The functions that a loop picks for a prefix are those whose scope lies in it, at the prefix's own values.
-use Rattle.std.proofs.Common.{◌≡◌, ℕ, ◌<◌, ◌≤◌, Bool, true, false, cond, leb, List, [], ◌∷◌, map, length, get_or, take, sym, refl, ap, ◌∙◌, subst, ap₂, inl, inr, arith}
+use Rattle.std.proofs.Common.{◌≡◌, ℕ, ◌<◌, ◌≤◌, true, leb, List, [], ◌∷◌, map, length, get_or, take, sym, refl, ap, ◌∙◌, subst, ap₂, inl, inr}
 use Rattle.std.proofs.lemmas.List.{length-map, length-take-le, take-map}
 use Rattle.std.proofs.lemmas.Bool.{cases_Bool}
 use Rattle.costs.specs.Structures.{Structure, Lawful, total}
 use Rattle.costs.proofs.Totals.{folded, folded_total}
 use Rattle.variables.specs.Lists.{has}
-use Rattle.variables.specs.Assignments.{Assignment, of, along}
-use Rattle.problems.specs.Problems.{Function, Problem, cost_at}
+use Rattle.variables.specs.Assignments.{of, along}
+use Rattle.problems.specs.Problems.{Function, cost_at}
 use Rattle.problems.specs.Records.{Placed, nth, held, function_in}
 use Rattle.problems.specs.Outlines.{Outline, problem}
 use Rattle.problems.proofs.Bounds.{held_there}
 use Rattle.floors.specs.Settings.{kept, costs_at, Formed, Fits}
-use Rattle.floors.specs.Floors.{within, paid_floor}
-use Rattle.floors.specs.ByNumber.{bucket_of, bucket_paid_floor}
+use Rattle.floors.specs.Floors.{paid_floor}
+use Rattle.floors.specs.ByNumber.{bucket_of}
 use Rattle.floors.specs.Sources.{bucket_in}
 use Rattle.floors.specs.Shapes.{shaped}
 use Rattle.floors.specs.Scopes.{along_take, cost_agree, Within, within_head, within_tail}
 use Rattle.floors.specs.SettingsLemmas.{along_ranged}
 use Rattle.floors.specs.Covers.{covered}
-use Rattle.floors.specs.Climbs.{take_has}
 use Rattle.floors.specs.Admissions.{within_has}
 use Rattle.floors.proofs.Numbers.{bucket_take, paid_same}
 use Rattle.floors.proofs.Pickings.{picked, noted_picked}

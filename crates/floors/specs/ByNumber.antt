@@ -1,13 +1,12 @@
 -- The floors as they are told by the numbers of buckets, and by lists of assignments.
-use Rattle.std.specs.Prelude.{◌≡◌, ℕ, zero, suc, ◌-◌, ◌<◌, ◌≤◌, max, Bool, true, cond, not, List, [], ◌∷◌, ◌++◌, map, length, take, ◌==◌, nat_le, slice_index}
-use Rattle.costs.specs.Structures.{Structure, Lawful, total}
+use Rattle.std.specs.Prelude.{ℕ, zero, suc, ◌-◌, max, Bool, cond, not, List, [], ◌∷◌, ◌++◌, map, length, take, ◌==◌, nat_le, slice_index}
+use Rattle.costs.specs.Structures.{Structure, total}
 use Rattle.floors.specs.Leasts.{least_of}
 use Rattle.variables.specs.Lists.{has}
-use Rattle.variables.specs.Assignments.{Full, Assignment, along}
+use Rattle.variables.specs.Assignments.{Assignment, along}
 use Rattle.problems.specs.Problems.{Function, Problem, cost_at}
-use Rattle.floors.specs.Settings.{assign, costs_at, kept, values, Formed}
-use Rattle.floors.specs.MiniBuckets.{flat, message, split_from, mini_bucket_floor}
-use Rattle.floors.specs.Floors.{paid_floor, first_choice_floor}
+use Rattle.floors.specs.Settings.{assign, costs_at, kept, values}
+use Rattle.floors.specs.MiniBuckets.{flat, message, split_from}
 
 -- the place of a variable in the order, from p on
 abbrev pub place_from : ℕ → List ℕ → ℕ → ℕ

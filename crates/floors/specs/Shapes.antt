@@ -1,12 +1,11 @@
 -- A formed problem's parts, as recursions over their lists.
-use Rattle.std.specs.Prelude.{◌≡◌, ℕ, ◌<◌, ◌≤◌, Bool, true, false, not, ◌&&◌, List, [], ◌∷◌, length, ◌==◌, nat_le, nat_lt}
-use Rattle.std.proofs.Common.{arith}
+use Rattle.std.specs.Prelude.{◌≡◌, ℕ, ◌<◌, true, false, not, ◌&&◌, List, [], ◌∷◌, length, ◌==◌, nat_le, nat_lt}
 use Rattle.std.specs.List.{AllByRecursion as All}
 use Rattle.std.proofs.lemmas.Bool.{and_parts, not-true, ltb-true, leb-true, eqb-true}
 use Rattle.variables.specs.Lists.{has, known, distinct}
 use Rattle.variables.specs.Assignments.{cells}
 use Rattle.problems.specs.Problems.{Function, Problem}
-use Rattle.variables.specs.Rules.{domain, domains, chosen, proper, is_order}
+use Rattle.variables.specs.Rules.{domain, domains, proper}
 use Rattle.floors.specs.Settings.{Formed}
 
 abbrev pub Distinct : List ℕ → Type 0

@@ -1,10 +1,10 @@
 -- Two lawful sources make a lawful one.
-use Rattle.std.specs.Prelude.{◌≡◌, ℕ, ◌+◌, ◌<◌, ◌≤◌, min, true, ◌&&◌, List, length, get_or, take, drop, slice_index_or}
+use Rattle.std.specs.Prelude.{◌≡◌, ℕ, ◌+◌, ◌<◌, ◌≤◌, min, true, ◌&&◌, List, get_or, take, drop, slice_index_or}
 use Rattle.std.proofs.Common.{sym, ap, ap₂, subst, ◌∙◌, arith}
 use Rattle.std.proofs.lemmas.List.{take-take, drop-drop, get_or-take}
 use Rattle.std.proofs.lemmas.Bool.{and_parts, cond_both}
 use Rattle.costs.specs.Structures.{Structure}
-use Rattle.problems.specs.Problems.{Function, Problem, cost}
+use Rattle.problems.specs.Problems.{Function, cost}
 use Rattle.problems.specs.Records.{laid_from}
 use Rattle.problems.specs.Outlines.{Outline, problem}
 use Rattle.problems.proofs.Tables.{same_below}

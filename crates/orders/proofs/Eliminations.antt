@@ -1,5 +1,5 @@
 -- What is eliminated one after the other, and its reverse, is an order.
-use Rattle.std.proofs.Common.{◌≡◌, ℕ, zero, suc, ◌+◌, ◌-◌, ◌<◌, ◌≤◌, Bool, true, false, cond, not, ◌&&◌, ◌||◌, eqb, ltb, ◌⊎◌, List, [], ◌∷◌, ◌++◌, reverse, length, get_or, sym, refl, ap, ◌∙◌, ap₂, inl, inr, arith, eqb-true}
+use Rattle.std.proofs.Common.{◌≡◌, ℕ, zero, suc, ◌+◌, ◌-◌, ◌<◌, ◌≤◌, Bool, true, false, cond, not, ◌||◌, eqb, ltb, List, [], ◌∷◌, ◌++◌, reverse, length, sym, refl, ap, ◌∙◌, ap₂, inl, inr, arith, eqb-true}
 use borrow.Author.Tests.{not-true}
 use Rattle.std.proofs.lemmas.List.{length-append, length-reverse, reverse-append, nil_from_length}
 use Rattle.std.proofs.lemmas.Bool.{cases_Bool, cond_both, and_parts}
@@ -7,7 +7,7 @@ use Rattle.std.proofs.lemmas.Bool.Decides.{nat_tests}
 use Rattle.variables.specs.Lists.{has, known, distinct}
 use Rattle.problems.specs.Outlines.{Outline}
 use Rattle.variables.specs.Rules.{is_order}
-use Rattle.variables.proofs.Listings.{has_append, known_append, distinct_push}
+use Rattle.variables.proofs.Listings.{has_append, distinct_push}
 use Rattle.orders.specs.Cliques.{neighbours, fill, fewest, fewest_from, others, scopes}
 use Rattle.orders.proofs.Steps.{moved, ended}
 use Rattle.orders.specs.Orders.{numbered, eliminated, min_fill}

@@ -1,11 +1,11 @@
 -- One turn of each loop: what is still to come, put behind what is collected, leads on to the whole.
-use Rattle.std.proofs.Common.{◌≡◌, ℕ, zero, suc, ◌+◌, ◌*◌, ◌<◌, ◌≤◌, Bool, true, false, cond, not, ◌&&◌, ◌||◌, eqb, ltb, List, [], ◌∷◌, ◌++◌, map, length, get_or, take, drop, vec_items, Vec, sym, refl, ap, ◌∙◌, ap₂, append_assoc, append-nil, add-one, arith, le-ltb, lt-ltb}
+use Rattle.std.proofs.Common.{◌≡◌, ℕ, zero, suc, ◌+◌, ◌<◌, ◌≤◌, Bool, true, false, cond, ◌&&◌, ◌||◌, eqb, ltb, List, [], ◌∷◌, ◌++◌, map, length, get_or, take, drop, vec_items, Vec, sym, refl, ap, ◌∙◌, append_assoc, append-nil, add-one, arith, le-ltb, lt-ltb}
 use Rattle.std.specs.declared.alloc.Global.{Global}
-use Rattle.std.proofs.lemmas.List.{at_drop_more, at_drop_all}
+use Rattle.std.proofs.lemmas.List.{at_drop_more}
 use Rattle.std.proofs.lemmas.Bool.Decides.{nat_tests}
 use Rattle.variables.specs.Lists.{has}
 use Rattle.problems.specs.Records.{Placed, nth}
-use Rattle.orders.specs.Cliques.{joined, nearby, neighbours, apart, gaps, fill, fewest, fewest_from, others, scopes, scope_or_none}
+use Rattle.orders.specs.Cliques.{joined, nearby, neighbours, apart, fill, fewest_from, others, scopes, scope_or_none}
 
 -- one item more, taken from the front of what is still to come
 pub moved : {A : Type 0} (kept kept' rest rest' whole : List A) (u : A) → kept' ≡ kept ++ u ∷ [] → rest ≡ u ∷ rest' → kept ++ rest ≡ whole → kept' ++ rest' ≡ whole

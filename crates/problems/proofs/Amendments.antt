@@ -1,11 +1,11 @@
 -- A tuple that is not refused has a cell in its function's table, and so among the cells in use.
-use Rattle.std.proofs.Common.{◌≡◌, ℕ, zero, suc, ◌+◌, ◌<◌, ◌≤◌, true, false, not, List, [], ◌∷◌, ◌++◌, map, length, take, drop, set, replicate, Some, None, Option, sym, refl, ap, ◌∙◌, arith}
+use Rattle.std.proofs.Common.{◌≡◌, ℕ, zero, suc, ◌+◌, ◌<◌, ◌≤◌, true, List, [], ◌∷◌, ◌++◌, length, take, drop, set, replicate, Some, None, sym, refl, ap, ◌∙◌, arith}
 use Rattle.std.proofs.lemmas.Bool.{not-false, leb-false}
 use Rattle.variables.specs.Refusals.{first_of}
 use Rattle.variables.specs.Rules.{fits}
 use Rattle.variables.specs.Assignments.{cells, along, cell_from}
 use Rattle.problems.specs.Problems.{with_cost, with_function}
-use Rattle.problems.specs.Records.{Placed, nth, laid_from, function_in}
+use Rattle.problems.specs.Records.{Placed, nth, laid_from}
 use Rattle.problems.specs.Outlines.{Outline, scope_in, amending, cell_of, problem, entered}
 use Rattle.variables.proofs.Rows.{rows_passed}
 use Rattle.problems.proofs.Bounds.{cell_below, fits_ranged}

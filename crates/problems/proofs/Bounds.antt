@@ -1,15 +1,14 @@
 -- A tuple's cell lies in its table, and a table's cell in the area.
-use Rattle.std.proofs.Common.{◌≡◌, ℕ, zero, suc, ◌+◌, ◌*◌, ◌<◌, ◌≤◌, Bool, true, false, ◌&&◌, ◌||◌, eqb, ltb, List, [], ◌∷◌, map, length, get_or, take, drop, sym, refl, ap, ◌∙◌, add_assoc, mul-le-mul_right, mul_assoc, suc-mul, add-mul, zero-mul, mul-one, arith}
+use Rattle.std.proofs.Common.{◌≡◌, ℕ, suc, ◌+◌, ◌*◌, ◌<◌, true, eqb, List, [], ◌∷◌, map, length, get_or, drop, sym, refl, ◌∙◌, add_assoc, mul-le-mul_right, mul_assoc, suc-mul, add-mul, zero-mul, mul-one, arith}
 use Rattle.std.proofs.lemmas.List.{get_or-take, get_or-drop}
-use Rattle.std.proofs.lemmas.Bool.{and_parts, or_right, or_left, eq-eqb, ltb-true}
+use Rattle.std.proofs.lemmas.Bool.{and_parts, or_right, or_left, eq-eqb}
 use Rattle.std.proofs.lemmas.Bool.Decides.{nat_tests}
 use Rattle.costs.specs.Structures.{Structure}
 use Rattle.variables.specs.Lists.{has, known}
 use Rattle.variables.specs.Assignments.{Assignment, along, cell_from, cells, of, Full}
-use Rattle.problems.specs.Problems.{Function, cost_at}
+use Rattle.problems.specs.Problems.{cost_at}
 use Rattle.variables.specs.Rules.{fits, proper}
-use Rattle.problems.specs.Records.{Placed, function_in, held, laid_from, all_proper}
-use Rattle.variables.proofs.Tuples.{same_cell}
+use Rattle.problems.specs.Records.{Placed, function_in, held, all_proper}
 
 module _ (sizes : List ℕ) where
   -- the cell of a tuple, its first variable's part first

@@ -1,11 +1,10 @@
 -- Lists of function records.
-use Rattle.std.proofs.Common.{◌≡◌, ℕ, zero, suc, ◌+◌, ◌<◌, ◌≤◌, Bool, true, false, ◌&&◌, eqb, ◌⊎◌, List, [], ◌∷◌, ◌++◌, map, length, get_or, take, set, Some, None, Option, sym, refl, ap, ◌∙◌, inl, inr, arith}
+use Rattle.std.proofs.Common.{◌≡◌, ℕ, zero, suc, ◌+◌, ◌<◌, ◌≤◌, true, List, [], ◌∷◌, ◌++◌, map, length, get_or, take, set, Some, None, refl, ap, ◌∙◌, arith}
 use Rattle.std.proofs.lemmas.List.{length-map, length-take-le, take_more_set, map_push, get_or-take, get_or-map}
 use Rattle.std.proofs.lemmas.Bool.Decides.{nat_tests}
 use Rattle.variables.specs.Assignments.{cells}
 use Rattle.variables.specs.Rules.{proper}
-use Rattle.problems.specs.declared.plain.FunctionRecord.{FunctionRecord}
-use Rattle.problems.specs.Records.{Placed, placed_of, nth, laid_from, all_proper}
+use Rattle.problems.specs.Records.{Placed, nth, laid_from, all_proper}
 
 -- an item that is there, and one past the end
 pub nth_map : {A B : Type 0} (f : A → B) (xs : List A) (k : ℕ) (d : A) → k < length xs → nth (map f xs) k ≡ Some (f (get_or xs k d))

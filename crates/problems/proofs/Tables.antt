@@ -1,6 +1,6 @@
 -- Tables that lie one behind the other in an area: what entering one and changing a cost leaves of the problem.
-use Rattle.std.proofs.Common.{◌≡◌, ℕ, zero, suc, ◌+◌, ◌-◌, ◌<◌, ◌≤◌, Bool, true, false, ◌&&◌, eqb, List, [], ◌∷◌, ◌++◌, map, length, get_or, take, drop, set, replicate, Some, None, Option, sym, refl, ap, ◌∙◌, ap₂, add_assoc, add_comm, arith}
-use Rattle.std.proofs.lemmas.List.{drop-take, take-take, take_at, drop_at, length-take-le, length-replicate, take-set-le, drop-set-lt, drop-set-add, map_push, take_all}
+use Rattle.std.proofs.Common.{◌≡◌, ℕ, zero, suc, ◌+◌, ◌<◌, ◌≤◌, true, eqb, List, [], ◌∷◌, ◌++◌, map, length, take, drop, set, replicate, Some, sym, refl, ap, ◌∙◌, ap₂, arith}
+use Rattle.std.proofs.lemmas.List.{drop-take, take-take, take_at, drop_at, length-take-le, length-replicate, take-set-le, drop-set-lt, drop-set-add, map_push}
 use Rattle.std.proofs.lemmas.Bool.{and_parts, eqb-true}
 use Rattle.variables.specs.Assignments.{cells, along, cell_from}
 use Rattle.problems.specs.Problems.{Function, changed, costing}

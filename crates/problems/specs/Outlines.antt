@@ -6,7 +6,7 @@ use Rattle.variables.specs.Refusals.{Row}
 use Rattle.variables.specs.Rules.{fits}
 use Rattle.problems.specs.Rules.{enter_rows}
 use Rattle.variables.specs.Assignments.{along, cell_from, cells}
-use Rattle.problems.specs.Problems.{Problem, Function}
+use Rattle.problems.specs.Problems.{Problem}
 use Rattle.variables.specs.Records.{sizes_of, order_of}
 use Rattle.problems.specs.Records.{Placed, placed, nth, function_in}
 

@@ -1,5 +1,5 @@
 -- Backing up, turn by turn.
-use Rattle.std.proofs.Common.{◌≡◌, ℕ, suc, ◌+◌, ◌<◌, ◌≤◌, min, Bool, true, false, cond, ◌&&◌, eqb, ltb, leb, List, [], ◌∷◌, map, reverse, length, get_or, Some, None, Option, sym, refl, ap, ◌∙◌, ap₂, inl, inr, arith}
+use Rattle.std.proofs.Common.{◌≡◌, ℕ, suc, ◌+◌, ◌≤◌, min, true, false, ◌&&◌, ltb, leb, List, [], ◌∷◌, reverse, length, Option, sym, refl, ap, ◌∙◌, ap₂, arith}
 use Rattle.std.proofs.lemmas.Bool.{eq-eqb, ne_eqb}
 use Rattle.std.proofs.lemmas.Bool.Decides.{nat_tests}
 use Rattle.variables.specs.declared.plain.Order.{Order}
@@ -7,7 +7,7 @@ use Rattle.variables.specs.declared.plain.Sizes.{Sizes}
 use Rattle.variables.specs.declared.plain.Prefix.{Prefix}
 use Rattle.variables.specs.Records.{order_of, sizes_of, prefix_of, Shorter}
 use Rattle.search.specs.declared.plain.Place.{Place}
-use Rattle.search.specs.Searches.{Spot, size_at, fit, settled}
+use Rattle.search.specs.Searches.{size_at, fit, settled}
 use Rattle.search.specs.Places.{spot_of, Backs, Settles}
 use Rattle.search.proofs.Spots.{path_long, path_shorter, none_left, size_small, fit_parts}
 

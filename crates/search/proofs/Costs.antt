@@ -1,10 +1,9 @@
 -- What the cells of a full prefix hold together is the prefix's cost.
-use Rattle.std.proofs.Common.{◌≡◌, ℕ, ◌<◌, ◌≤◌, true, List, [], ◌∷◌, map, length, get_or, take, sym, refl, ap, ◌∙◌, subst, ap₂, arith}
+use Rattle.std.proofs.Common.{◌≡◌, ℕ, ◌<◌, true, List, [], ◌∷◌, map, length, get_or, take, sym, refl, ap, ◌∙◌, subst, ap₂, arith}
 use Rattle.std.proofs.lemmas.List.{length-map, take_all}
 use Rattle.costs.specs.Structures.{Structure, total}
 use Rattle.variables.specs.Lists.{has}
 use Rattle.variables.specs.Assignments.{of, along}
-use Rattle.problems.specs.Problems.{cost_at}
 use Rattle.problems.specs.Records.{Placed, held, function_in}
 use Rattle.problems.specs.Outlines.{Outline, problem}
 use Rattle.problems.proofs.Bounds.{held_there}

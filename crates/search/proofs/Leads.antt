@@ -1,5 +1,5 @@
 -- What a visit leads to, by what the prefix that is tried costs.
-use Rattle.std.proofs.Common.{◌≡◌, ℕ, suc, ◌<◌, ◌≤◌, Bool, true, false, cond, eqb, ltb, List, [], ◌∷◌, map, reverse, length, take, Some, None, Option, sym, refl, ap, ◌∙◌, subst, ap₂, arith}
+use Rattle.std.proofs.Common.{◌≡◌, ℕ, suc, true, false, cond, eqb, ltb, List, ◌∷◌, map, reverse, length, Some, Option, sym, refl, ap, ◌∙◌, subst, arith}
 use Rattle.std.proofs.lemmas.List.{take_all}
 use Rattle.std.proofs.lemmas.Bool.{cond_both, cond-true, cond-false, eq-eqb, ne_eqb, ltb-false}
 use Rattle.costs.specs.Structures.{Structure, cheaper, total}
@@ -11,11 +11,10 @@ use Rattle.variables.specs.Records.{order_of, sizes_of, values_of, prefix_of, Lo
 use Rattle.problems.specs.Records.{held}
 use Rattle.problems.specs.Outlines.{outline, problem}
 use Rattle.floors.specs.Settings.{Formed, Fits}
-use Rattle.floors.specs.Rules.{Rules, Told}
 use Rattle.search.specs.declared.plain.Place.{Place}
 use Rattle.search.specs.declared.plain.Search.{Search as Bounded}
-use Rattle.search.specs.Searches.{Spot, Search, fit, ended, steady, settled, path_cost, visited}
-use Rattle.search.specs.Places.{spot_of, search_of, Backs, Visits, noted}
+use Rattle.search.specs.Searches.{Spot, Search, ended, steady, settled, path_cost, visited}
+use Rattle.search.specs.Places.{spot_of, search_of, Backs, noted}
 use Rattle.search.proofs.Spots.{path_length, path_longer}
 use Rattle.search.proofs.Costs.{full_cost}
 use Rattle.search.proofs.Visits.{Ready, ready, tried_is, tried_length, tried_low, tried_fit, tried_fits, deeper_steady, backed_steady}

@@ -1,14 +1,12 @@
 -- A place's path: how long it is, and one value more or less.
-use Rattle.std.proofs.Common.{◌≡◌, ℕ, suc, ◌<◌, ◌≤◌, min, Bool, true, false, ◌&&◌, ◌||◌, eqb, ltb, List, [], ◌∷◌, ◌++◌, map, reverse, length, get_or, take, sym, refl, ap, ◌∙◌, inl, inr, arith}
+use Rattle.std.proofs.Common.{◌≡◌, ℕ, ◌<◌, ◌≤◌, min, true, false, eqb, ltb, List, [], ◌∷◌, reverse, length, get_or, take, sym, refl, ap, ◌∙◌, inl, inr, arith}
 use Rattle.std.proofs.lemmas.List.{length-map, length-take, length-reverse, reverse-append, get_or_past, get_or-take}
 use Rattle.std.proofs.lemmas.Bool.{cases_lt, and_parts, ltb-true, eq-eqb, ne_eqb}
-use Rattle.std.proofs.lemmas.Bool.Decides.{nat_tests}
 use Rattle.variables.specs.declared.plain.Order.{Order}
 use Rattle.variables.specs.declared.plain.Sizes.{Sizes}
 use Rattle.variables.specs.declared.plain.Prefix.{Prefix}
 use Rattle.variables.specs.Assignments.{of}
 use Rattle.variables.specs.Records.{order_of, sizes_of, values_of, prefix_of, Longer, Shorter}
-use Rattle.variables.proofs.Slots.{in_use}
 use Rattle.search.specs.declared.plain.Place.{Place}
 use Rattle.search.specs.Searches.{size_at, fit, ended}
 use Rattle.search.specs.Places.{spot_of}

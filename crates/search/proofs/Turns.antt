@@ -1,6 +1,6 @@
 -- A run, visit by visit: what was made and what is still allowed come to the whole.
-use Rattle.std.proofs.Common.{◌≡◌, ℕ, zero, suc, ◌+◌, ◌-◌, ◌<◌, ◌≤◌, Bool, true, false, List, sym, refl, ap, ◌∙◌, subst, ap₂, add-zero, add-suc, zero-add, arith}
-use native.Mathlib.Nat.{sub-zero, sub_self}
+use Rattle.std.proofs.Common.{◌≡◌, ℕ, zero, suc, ◌+◌, ◌-◌, ◌<◌, true, false, List, sym, refl, ap, ◌∙◌, add-zero, zero-add, arith}
+use native.Mathlib.Nat.{sub-zero}
 use Rattle.costs.specs.Structures.{Structure}
 use Rattle.problems.specs.Problems.{Problem}
 use Rattle.search.specs.Searches.{Search, Ran, ran, ended, visited}

@@ -1,32 +1,20 @@
 -- One visit: the prefix that is tried, and what it leads to.
-use Rattle.std.proofs.Common.{◌≡◌, ℕ, zero, suc, ◌+◌, ◌<◌, ◌≤◌, min, Bool, true, false, cond, ◌&&◌, ◌||◌, eqb, ltb, leb, List, [], ◌∷◌, ◌++◌, map, reverse, length, get_or, take, Some, None, Option, sym, refl, ap, ◌∙◌, subst, ap₂, inl, inr, arith}
+use Rattle.std.proofs.Common.{◌≡◌, ℕ, zero, suc, ◌<◌, ◌≤◌, true, false, eqb, ltb, List, [], ◌∷◌, reverse, length, get_or, Option, sym, ap, ◌∙◌, subst, inl, inr, arith}
 use mathlib.Core.List.{reverse-cons}
-use Rattle.std.proofs.lemmas.List.{length-map, length-take, length-reverse, reverse-reverse, take_all, get_or-take, get_or_append_left, get_or_push}
-use Rattle.std.proofs.lemmas.Bool.{cases_Bool, cases_lt, cond_both, and_parts, and_from, or_cases, or_right, or_left, ltb-true, lt-ltb, eq-eqb, ne_eqb, eqb-true, eqb-false, le-ltb, both_ways}
+use Rattle.std.proofs.lemmas.List.{length-take, length-reverse, reverse-reverse, get_or-take, get_or_append_left, get_or_push}
+use Rattle.std.proofs.lemmas.Bool.{cases_lt, cond_both, and_parts, and_from, or_cases, or_right, ltb-true, lt-ltb, eqb-true, eqb-false, both_ways}
 use Rattle.std.proofs.lemmas.Bool.Decides.{nat_tests}
-use Rattle.costs.specs.Structures.{Structure, cheaper, total}
-use Rattle.variables.specs.declared.plain.Order.{Order}
-use Rattle.variables.specs.declared.plain.Sizes.{Sizes}
 use Rattle.variables.specs.declared.plain.Prefix.{Prefix}
 use Rattle.problems.specs.declared.shape.Shape.{Shape}
-use Rattle.variables.specs.Lists.{has, known, distinct}
+use Rattle.variables.specs.Lists.{known, distinct}
 use Rattle.variables.specs.Rules.{is_order}
-use Rattle.variables.specs.Assignments.{of, along}
-use Rattle.problems.specs.Problems.{Problem, Function, cost_at}
-use Rattle.variables.specs.Records.{order_of, sizes_of, values_of, prefix_of, Longer}
-use Rattle.problems.specs.Records.{Placed, held, function_in}
-use Rattle.problems.specs.Outlines.{Outline, outline, problem}
-use Rattle.problems.proofs.Bounds.{held_there}
-use Rattle.floors.specs.Settings.{Formed, Fits, costs_at}
-use Rattle.floors.specs.Shapes.{shaped}
-use Rattle.floors.specs.Scopes.{along_take, cost_agree, Within, within_head, within_tail}
-use Rattle.floors.specs.SettingsLemmas.{along_ranged}
-use Rattle.floors.specs.Covers.{covered}
+use Rattle.variables.specs.Records.{order_of, sizes_of, prefix_of, Longer}
+use Rattle.problems.specs.Outlines.{outline, problem}
+use Rattle.floors.specs.Settings.{Fits}
 use Rattle.search.specs.declared.plain.Place.{Place}
-use Rattle.search.specs.declared.plain.Search.{Search as Bounded}
-use Rattle.search.specs.Searches.{Spot, Search, size_at, fit, ended, steady, settled, path_cost, visited}
-use Rattle.search.specs.Places.{spot_of, search_of, Backs, noted}
-use Rattle.search.proofs.Spots.{path_length, path_long, path_longer, size_small, fit_parts}
+use Rattle.search.specs.Searches.{Spot, size_at, fit, ended, steady, settled}
+use Rattle.search.specs.Places.{spot_of}
+use Rattle.search.proofs.Spots.{path_length, path_longer, fit_parts}
 
 -- a steady search that has not ended
 pub record Ready (sizes order : List ℕ) (s : Spot) : Type 0 where

@@ -1,5 +1,5 @@
 -- What a search is for: the best setting, or that there is none.
-use Rattle.std.specs.Prelude.{◌≡◌, ℕ, zero, suc, ◌*◌, Bool, true, false, ◌&&◌, ◌||◌, List, [], ◌∷◌, map, length, ◌==◌, nat_lt, slice_index}
+use Rattle.std.specs.Prelude.{◌≡◌, ℕ, suc, ◌*◌, Bool, true, false, ◌&&◌, ◌||◌, List, [], ◌∷◌, map, length, ◌==◌, nat_lt, slice_index}
 use Rattle.costs.specs.Structures.{Structure, Same, cheaper}
 use Rattle.variables.specs.Assignments.{Full, along}
 use Rattle.problems.specs.Problems.{Problem, cost}

@@ -12,7 +12,7 @@ use Rattle.floors.specs.Settings.{Formed, Fits}
 use Rattle.floors.specs.Rules.{Rules}
 use Rattle.search.specs.declared.plain.Place.{Place}
 use Rattle.search.specs.declared.plain.Search.{Search as Bounded}
-use Rattle.search.specs.Searches.{Spot, Search, Ran, ran, steady, ended, fit, settled, size_at, visited}
+use Rattle.search.specs.Searches.{Spot, Search, ran, steady, ended, fit, settled, visited}
 
 -- where the search is that a place describes
 abbrev pub spot_of : Order → Place → Spot

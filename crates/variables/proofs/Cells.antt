@@ -1,5 +1,5 @@
 -- Tables' cells: how many, and which.
-use Rattle.std.proofs.Common.{◌≡◌, ℕ, suc, ◌+◌, ◌*◌, ◌^◌, ◌<◌, ◌≤◌, min, ◌⊎◌, List, [], ◌∷◌, length, get_or, take, sym, refl, ap, ◌∙◌, inl, inr, mul-le-mul_right, mul-le-mul, mul-le-mul_left, pow-suc, add-one, arith, lit<, w64, Fits}
+use Rattle.std.proofs.Common.{◌≡◌, ℕ, ◌+◌, ◌*◌, ◌^◌, ◌<◌, ◌≤◌, List, length, get_or, sym, ap, ◌∙◌, inl, inr, mul-le-mul, mul-le-mul_left, pow-suc, add-one, arith, lit<, w64, Fits}
 use native.Mathlib.Nat.{pow-le-pow_right}
 use mir.Facts.{Fits-below}
 use Rattle.std.proofs.lemmas.List.{length-take, get_or-take, get_or_past}

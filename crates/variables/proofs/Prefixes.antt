@@ -1,5 +1,5 @@
 -- Values along an order, one more at the end.
-use Rattle.std.proofs.Common.{◌≡◌, ℕ, ◌+◌, ◌<◌, ◌≤◌, Bool, true, false, List, [], ◌∷◌, ◌++◌, map, length, get_or, take, set, sym, refl, ap, ◌∙◌, ap₂, arith}
+use Rattle.std.proofs.Common.{◌≡◌, ℕ, ◌+◌, ◌<◌, true, false, List, [], ◌∷◌, ◌++◌, map, length, get_or, take, set, sym, refl, ap, ◌∙◌, ap₂}
 use Rattle.std.proofs.lemmas.List.{get_or-set_same, get_or-set_other, take_more, map_push}
 use Rattle.std.proofs.lemmas.Bool.{or_parts, eqb-false}
 use Rattle.variables.specs.Lists.{has, distinct}

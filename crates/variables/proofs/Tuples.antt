@@ -1,12 +1,12 @@
 -- Tuples' values, listed along a scope.
-use Rattle.std.proofs.Common.{◌≡◌, ℕ, zero, suc, ◌+◌, ◌*◌, ◌<◌, ◌≤◌, Bool, true, false, cond, ◌&&◌, eqb, ltb, ◌⊎◌, List, [], ◌∷◌, ◌++◌, length, get_or, take, drop, set, sym, refl, ap, ◌∙◌, inl, inr, arith}
-use Rattle.std.proofs.lemmas.List.{take-append-drop, get_or-set_same, get_or-set_other, take_more, length-take-le, drop_more, drop_all}
-use Rattle.std.proofs.lemmas.Bool.{not-true, and_parts, cases_eq, eqb-true, eqb-false, eq-eqb, ne_eqb}
+use Rattle.std.proofs.Common.{◌≡◌, ℕ, ◌+◌, ◌*◌, ◌<◌, true, false, cond, ◌&&◌, eqb, ltb, List, [], ◌∷◌, ◌++◌, length, get_or, take, drop, set, sym, refl, ap, ◌∙◌, inl, inr, arith}
+use Rattle.std.proofs.lemmas.List.{take-append-drop, get_or-set_same, get_or-set_other, take_more, length-take-le, drop_more}
+use Rattle.std.proofs.lemmas.Bool.{not-true, and_parts, cases_eq, eq-eqb, ne_eqb}
 use Rattle.std.proofs.lemmas.Bool.Decides.{nat_tests}
 use Rattle.variables.specs.Lists.{has, distinct}
 use Rattle.variables.specs.Assignments.{Assignment, along, cell_from}
 use Rattle.variables.specs.Rules.{fits}
-use Rattle.variables.proofs.Listings.{has_append, distinct_push, distinct_front}
+use Rattle.variables.proofs.Listings.{distinct_push, distinct_front}
 
 -- tuples of another length do not fit
 pub fits_length : (sizes vs cs : List ℕ) → fits sizes vs cs ≡ true → length vs ≡ length cs

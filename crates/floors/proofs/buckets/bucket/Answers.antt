@@ -1,4 +1,4 @@
-use Rattle.std.proofs.Common.{◌≡◌, ◌+◌, max, drop, ap, ◌∙◌}
+use Rattle.std.proofs.Common.{◌+◌, max, drop, ap, ◌∙◌}
 use Rattle.variables.specs.Records.{order_of, scope_of}
 use Rattle.floors.specs.ByNumber.{bucket_of}
 use Rattle.floors.proofs.Places.{bucket_later, bucket_all}

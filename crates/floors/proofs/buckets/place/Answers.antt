@@ -1,4 +1,4 @@
-use Rattle.std.proofs.Common.{◌≡◌, ◌<◌, ◌≤◌, length, sym, refl, ap, ◌∙◌, arith}
+use Rattle.std.proofs.Common.{length, ap, arith}
 use mir.Facts.{Fits-below}
 use Rattle.std.proofs.lemmas.List.{length-take}
 use Rattle.variables.specs.Records.{order_of}

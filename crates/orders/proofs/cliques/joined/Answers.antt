@@ -1,5 +1,5 @@
-use Rattle.std.proofs.Common.{◌≡◌, ◌&&◌, map, drop, vec_items, sym, ap, ◌∙◌, arith}
-use Rattle.std.proofs.lemmas.List.{at_drop_more, at_drop_all}
+use Rattle.std.proofs.Common.{map, vec_items, sym, ◌∙◌, arith}
+use Rattle.std.proofs.lemmas.List.{at_drop_all}
 use Rattle.orders.specs.Cliques.{joined}
 use Rattle.orders.proofs.Steps.{joined_found, joined_later}
 use Rattle.orders.proofs.cliques.joined.Goals as goal

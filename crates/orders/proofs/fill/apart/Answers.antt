@@ -1,4 +1,4 @@
-use Rattle.std.proofs.Common.{◌≡◌, true, false, map, vec_items, sym, ◌∙◌, arith}
+use Rattle.std.proofs.Common.{true, false, map, vec_items, sym, ◌∙◌, arith}
 use Rattle.std.proofs.lemmas.List.{at_drop_all}
 use Rattle.orders.specs.Cliques.{apart}
 use Rattle.orders.proofs.Steps.{apart_turn}

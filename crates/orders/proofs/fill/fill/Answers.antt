@@ -1,4 +1,4 @@
-use Rattle.std.proofs.Common.{◌≡◌, ◌≤◌, map, length, vec_items, ap, ◌∙◌, arith}
+use Rattle.std.proofs.Common.{map, length, vec_items, ap, ◌∙◌, arith}
 use Rattle.orders.proofs.Steps.{neighbours_fewer}
 use Rattle.orders.proofs.fill.fill.Goals as goal
 

@@ -1,4 +1,4 @@
-use Rattle.std.proofs.Common.{◌≡◌, ℕ, List, ◌++◌, get_or, drop, vec_items, sym, ap, ◌∙◌, ap₂, arith, eq-eqb, ne_eqb}
+use Rattle.std.proofs.Common.{ℕ, List, ◌++◌, get_or, vec_items, sym, ap, ◌∙◌, ap₂, arith, eq-eqb, ne_eqb}
 use Rattle.std.proofs.lemmas.List.{at_drop_all}
 use Rattle.orders.specs.Cliques.{others}
 use Rattle.orders.proofs.Steps.{moved, ended, other_taken, other_left}

@@ -1,11 +1,10 @@
-use Rattle.std.proofs.Common.{◌≡◌, ℕ, ◌-◌, ◌≤◌, List, [], ◌∷◌, ◌++◌, map, length, vec_items, Vec, sym, refl, ap, ◌∙◌, ap₂, arith}
+use Rattle.std.proofs.Common.{◌≡◌, ℕ, ◌≤◌, List, [], ◌∷◌, ◌++◌, map, length, vec_items, Vec, ap, ◌∙◌, ap₂, arith}
 use Rattle.std.specs.declared.alloc.Global.{Global}
 use Rattle.std.proofs.lemmas.List.{map_push, length-take}
 use Rattle.variables.specs.declared.plain.Sizes.{Sizes}
 use Rattle.variables.specs.Records.{sizes_of}
 use Rattle.problems.specs.Outlines.{outline}
-use Rattle.orders.specs.Cliques.{neighbours, fewest, others, scopes}
-use Rattle.orders.specs.Orders.{numbered, eliminated}
+use Rattle.orders.specs.Cliques.{neighbours, fewest, others}
 use Rattle.orders.proofs.Steps.{others_fewer}
 use Rattle.orders.proofs.Eliminations.{numbered_length, eliminated_none, eliminated_turn, eliminated_all}
 use Rattle.orders.proofs.min_fill.eliminations.Goals as goal

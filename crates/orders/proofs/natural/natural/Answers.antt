@@ -1,4 +1,4 @@
-use Rattle.std.proofs.Common.{◌≡◌, ℕ, true, List, [], ◌∷◌, ◌++◌, length, vec_items, sym, ap, ◌∙◌, add-one, arith}
+use Rattle.std.proofs.Common.{◌≡◌, ℕ, [], ◌∷◌, ◌++◌, length, vec_items, sym, ap, ◌∙◌, add-one, arith}
 use Rattle.variables.specs.declared.plain.Sizes.{Sizes}
 use Rattle.variables.specs.Records.{sizes_of}
 use Rattle.problems.specs.Outlines.{outline}

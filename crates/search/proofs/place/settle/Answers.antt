@@ -1,4 +1,4 @@
-use Rattle.std.proofs.Common.{◌≡◌, sym, ap, ◌∙◌, subst}
+use Rattle.std.proofs.Common.{sym, ap, ◌∙◌, subst}
 use Rattle.variables.specs.declared.plain.Prefix.{Prefix}
 use Rattle.variables.specs.Records.{sizes_of, order_of}
 use Rattle.search.specs.Searches.{size_at}

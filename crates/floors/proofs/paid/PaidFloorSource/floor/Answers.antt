@@ -1,4 +1,4 @@
-use Rattle.std.proofs.Common.{◌≡◌, ◌+◌, true, length, get_or, sym, ap, ◌∙◌, subst, arith}
+use Rattle.std.proofs.Common.{◌≡◌, ◌+◌, true, sym, ap, ◌∙◌, subst, arith}
 use Rattle.variables.specs.declared.plain.Setting.{Setting}
 use Rattle.problems.specs.Outlines.{outline, problem}
 use Rattle.variables.specs.Assignments.{of}

@@ -1,6 +1,6 @@
-use Rattle.std.proofs.Common.{◌≡◌, Bool, true, length, sym, refl, arith}
+use Rattle.std.proofs.Common.{refl, arith}
 use Rattle.std.proofs.lemmas.Bool.Decides.{nat_tests}
-use Rattle.problems.specs.Records.{placed_of, placed}
+use Rattle.problems.specs.Records.{placed_of}
 use Rattle.problems.proofs.Placements.{used_length, used_push}
 use Rattle.problems.proofs.plain.Functions.push.Goals as goal
 

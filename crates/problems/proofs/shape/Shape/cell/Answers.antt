@@ -1,9 +1,7 @@
-use Rattle.std.proofs.Common.{◌≡◌, ℕ, ◌+◌, Bool, true, false, cond, not, leb, length, Some, None, Option, sym, refl, ap, ◌∙◌, arith}
+use Rattle.std.proofs.Common.{◌+◌, sym, refl, ap, ◌∙◌}
 use Rattle.std.proofs.lemmas.Bool.{le-leb, lt-leb}
-use Rattle.variables.specs.Assignments.{along, cell_from}
 use Rattle.variables.specs.Records.{sizes_of, scope_of}
-use Rattle.problems.specs.Records.{Placed, placed, placed_of, nth}
-use Rattle.problems.specs.Outlines.{scope_in, start_in}
+use Rattle.problems.specs.Records.{placed}
 use Rattle.problems.proofs.Placements.{nth_none, nth_some}
 use Rattle.variables.proofs.Tuples.{same_cell}
 use Rattle.problems.proofs.shape.Shape.cell.Goals as goal

@@ -1,11 +1,11 @@
-use Rattle.std.proofs.Common.{◌≡◌, ℕ, ◌+◌, ◌<◌, ◌≤◌, List, map, length, get_or, drop, sym, refl, ap, ◌∙◌, arith}
+use Rattle.std.proofs.Common.{◌≡◌, ◌<◌, ◌≤◌, map, length, get_or, sym, ap, ◌∙◌, arith}
 use Rattle.std.proofs.lemmas.List.{at_drop_more, at_drop_all, length-map}
 use mathlib.Core.Path.{fun_ext}
 use Rattle.costs.specs.Structures.{total}
 use Rattle.costs.proofs.Totals.{folded, folded_total}
-use Rattle.variables.specs.Assignments.{Assignment, of, Full}
+use Rattle.variables.specs.Assignments.{Assignment, of}
 use Rattle.variables.specs.Records.{sizes_of, values_of}
-use Rattle.problems.specs.Records.{Placed, held, placed, placed_of}
+use Rattle.problems.specs.Records.{held, placed, placed_of}
 use Rattle.problems.proofs.Placements.{used_item, used_length}
 use Rattle.problems.proofs.Bounds.{all_there}
 use Rattle.problems.proofs.shape.Shape.cost.Goals as goal

@@ -1,9 +1,7 @@
-use Rattle.std.proofs.Common.{◌≡◌, ℕ, ◌+◌, min, true, length, sym, refl, ap, ◌∙◌, arith}
+use Rattle.std.proofs.Common.{length, ap, arith}
 use Rattle.std.proofs.lemmas.Bool.{not-false}
-use Rattle.variables.specs.Assignments.{cells}
-use Rattle.variables.specs.Records.{sizes_of, scope_of}
-use Rattle.problems.specs.Records.{Placed, placed, placed_of, laid_from, all_proper}
-use Rattle.variables.specs.Rules.{proper}
+use Rattle.variables.specs.Records.{sizes_of}
+use Rattle.problems.specs.Records.{Placed, placed, placed_of}
 use Rattle.variables.proofs.Rows.{no_row}
 use Rattle.problems.proofs.Placements.{laid_push, proper_more}
 use Rattle.problems.proofs.shape.Shape.enter.Goals as goal

@@ -1,7 +1,7 @@
-use Rattle.std.proofs.Common.{◌≡◌, ◌≤◌, length, Option, sym, ap, ◌∙◌, arith}
+use Rattle.std.proofs.Common.{Option, sym, ap, ◌∙◌, arith}
 use Rattle.variables.specs.Assignments.{of}
 use Rattle.variables.specs.Records.{sizes_of, values_of}
-use Rattle.problems.specs.Records.{Placed, held_by, placed, placed_of, nth}
+use Rattle.problems.specs.Records.{Placed, held_by, placed, placed_of}
 use Rattle.problems.proofs.Placements.{used_length, used_nth, nth_past}
 use Rattle.problems.proofs.shape.Shape.function_cost.Goals as goal
 

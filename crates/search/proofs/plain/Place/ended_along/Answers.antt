@@ -1,4 +1,4 @@
-use Rattle.std.proofs.Common.{min, length, sym, ap, ◌∙◌, ap₂}
+use Rattle.std.proofs.Common.{min, length, ap, ◌∙◌, ap₂}
 use Rattle.variables.specs.Records.{sizes_of}
 use Rattle.search.proofs.Spots.{ended_then, ended_else}
 use Rattle.search.proofs.plain.Place.ended_along.Goals as goal

@@ -1,10 +1,10 @@
 use Rattle.std.proofs.Common.{◌≡◌, false, ltb, length, sym, refl, ap, ◌∙◌, subst}
 use Rattle.variables.specs.declared.plain.Order.{Order}
 use Rattle.variables.specs.declared.plain.Sizes.{Sizes}
-use Rattle.variables.specs.Records.{order_of, prefix_of, Longer}
+use Rattle.variables.specs.Records.{order_of, Longer}
 use Rattle.problems.specs.Outlines.{outline, problem}
 use Rattle.search.specs.declared.plain.Search.{Search as Bounded}
-use Rattle.search.specs.Places.{spot_of, search_of, Backs, Visits}
+use Rattle.search.specs.Places.{search_of, Backs}
 use Rattle.search.proofs.Visits.{tried_low, tried_fits}
 use Rattle.search.proofs.Leads.{not_full, now, trying, stays_deeper, stays_backed, stays_noted, visits_deeper, visits_pruned, visits_noted}
 use Rattle.search.proofs.plain.Search.visit.Goals as goal

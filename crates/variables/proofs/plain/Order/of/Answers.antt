@@ -1,9 +1,8 @@
-use Rattle.std.proofs.Common.{◌≡◌, not, length, refl, ap, arith}
+use Rattle.std.proofs.Common.{length, arith}
 use Rattle.std.proofs.lemmas.Result.{err_from_is_err_and}
 use Rattle.std.proofs.lemmas.List.{take_all, length-take}
 use Rattle.std.proofs.lemmas.Bool.Decides.{nat_tests}
 use Rattle.variables.specs.Records.{order_of, sizes_of}
-use Rattle.variables.specs.Rules.{proper}
 use Rattle.variables.proofs.Listings.{turn_refused, turn_taken, turn_same}
 use Rattle.variables.proofs.Rows.{only_row, no_row}
 use Rattle.variables.proofs.plain.Order.of.Goals as goal

@@ -1,8 +1,7 @@
-use Rattle.std.proofs.Common.{◌≡◌, not, length, refl, ap, arith}
+use Rattle.std.proofs.Common.{length, refl, arith}
 use Rattle.std.proofs.lemmas.Result.{err_from_is_err_and}
 use Rattle.std.proofs.lemmas.List.{take_all}
 use Rattle.variables.specs.Records.{scope_of, sizes_of}
-use Rattle.variables.specs.Rules.{proper}
 use Rattle.variables.proofs.Listings.{turn_refused, turn_taken, turn_same}
 use Rattle.variables.proofs.Rows.{only_row, no_row}
 use Rattle.variables.proofs.plain.Scope.of.Goals as goal

@@ -1,8 +1,8 @@
-use Rattle.std.proofs.Common.{◌≡◌, ◌+◌, ◌<◌, ◌≤◌, Bool, true, false, not, length, get_or, take, set, sym, ap, ◌∙◌, arith}
+use Rattle.std.proofs.Common.{◌≡◌, ◌+◌, ◌<◌, true, false, take, set, arith}
 use Rattle.std.proofs.lemmas.List.{take_more_set, length-take-le, length-take}
 use Rattle.std.proofs.lemmas.Bool.Decides.{nat_tests}
 use Rattle.variables.specs.Lists.{has, distinct}
-use Rattle.variables.specs.Records.{scope_of, sizes_of}
+use Rattle.variables.specs.Records.{scope_of}
 use Rattle.variables.proofs.Slots.{each_after}
 use Rattle.variables.proofs.Listings.{distinct_push}
 use Rattle.variables.proofs.plain.Scope.push.Goals as goal

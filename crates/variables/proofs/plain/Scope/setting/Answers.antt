@@ -1,8 +1,7 @@
-use Rattle.std.proofs.Common.{◌≡◌, ◌+◌, ◌<◌, ◌≤◌, Bool, true, false, ◌&&◌, ltb, ◌⊎◌, length, get_or, take, drop, sym, ap, ◌∙◌, inl, inr, arith}
+use Rattle.std.proofs.Common.{◌+◌, ◌≤◌, ◌&&◌, length, get_or, drop, sym, ap, ◌∙◌, inl, inr, arith}
 use Rattle.std.proofs.lemmas.List.{take_all, drop_all}
 use Rattle.std.proofs.lemmas.Bool.{cases_Bool, lt-ltb, le-ltb}
-use Rattle.variables.specs.Assignments.{along}
-use Rattle.variables.specs.Records.{sizes_of, scope_of, values_of}
+use Rattle.variables.specs.Records.{sizes_of, scope_of}
 use Rattle.variables.specs.Rules.{fits}
 use Rattle.variables.proofs.Cells.{variable_slot}
 use Rattle.variables.proofs.Tuples.{fits_length, fits_more, along_more}

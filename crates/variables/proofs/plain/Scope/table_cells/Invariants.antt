@@ -1,4 +1,4 @@
-use Rattle.std.proofs.Common.{◌≡◌, ◌+◌, ◌*◌, ◌^◌, ◌≤◌, drop}
+use Rattle.std.proofs.Common.{◌≡◌, ◌*◌, ◌^◌, ◌≤◌, drop}
 use Rattle.variables.specs.Assignments.{cells}
 use Rattle.variables.specs.Records.{sizes_of, scope_of}
 use Rattle.variables.proofs.plain.Scope.table_cells.Given as goal

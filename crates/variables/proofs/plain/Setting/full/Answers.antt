@@ -1,6 +1,5 @@
-use Rattle.std.proofs.Common.{◌≡◌, ℕ, ◌+◌, ◌<◌, ◌≤◌, ◌⊎◌, length, get_or, take, set, sym, refl, ap, ◌∙◌, inl, inr, arith, below_more}
+use Rattle.std.proofs.Common.{ℕ, get_or, refl, ap, ◌∙◌, arith, below_more}
 use Rattle.std.proofs.lemmas.List.{take_all, length-set, length-take}
-use Rattle.variables.specs.Records.{sizes_of}
 use Rattle.variables.proofs.Cells.{size_slot}
 use Rattle.variables.proofs.Slots.{copied, same_slots}
 use Rattle.variables.proofs.plain.Setting.full.Goals as goal

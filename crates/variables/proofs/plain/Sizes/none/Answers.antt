@@ -1,4 +1,4 @@
-use Rattle.std.proofs.Common.{◌≡◌, ℕ, arith}
+use Rattle.std.proofs.Common.{ℕ, arith}
 use Rattle.variables.proofs.Slots.{same_slots}
 use Rattle.variables.proofs.plain.Sizes.none.Goals as goal
 

@@ -1,4 +1,4 @@
-use Rattle.std.proofs.Common.{◌≡◌, sym, arith}
+use Rattle.std.proofs.Common.{sym, arith}
 use Rattle.variables.proofs.Slots.{in_use, past_use}
 use Rattle.variables.proofs.plain.Sizes.size.Goals as goal
 
