@@ -7,7 +7,7 @@ use Rattle.costs.proofs.Totals.{folded, folded_total}
 use Rattle.variables.specs.Lists.{has}
 use Rattle.variables.specs.Assignments.{of, along}
 use Rattle.problems.specs.Problems.{Function}
-use Rattle.problems.specs.Records.{Placed, placed_of, nth, held, function_in}
+use Rattle.problems.specs.Records.{Placed, nth, held, function_in}
 use Rattle.problems.specs.Outlines.{Outline, problem}
 use Rattle.floors.specs.Settings.{kept, costs_at, Formed, Fits}
 use Rattle.floors.specs.MiniBuckets.{split_from, mini_bucket_floor}
@@ -20,7 +20,7 @@ use Rattle.floors.specs.Eliminations.{messages_within}
 use Rattle.floors.proofs.Pickings.{picked, noted_picked}
 use Rattle.floors.proofs.Paids.{given, given_length, kept_along}
 use Rattle.buckets.specs.declared.plain.MiniBucket.{MiniBucket}
-use Rattle.buckets.specs.Listed.{listed}
+use Rattle.buckets.specs.Listed.{listed, tabled}
 use Rattle.buckets.specs.Made.{bucket_made, scopes_made, placed_made}
 use Rattle.buckets.specs.Processed.{scopes_of}
 use Rattle.buckets.specs.Sources.{Kept}
@@ -66,7 +66,7 @@ module _ {C : Type 0} (K : Structure C) (L : Lawful K) (o : Outline) (area : Lis
 
   -- the records that the loop goes through
   abbrev pub reached : List Placed
-  reached = map placed_of (take (get_or s.made.reach n 0) s.made.records.records)
+  reached = map tabled (take (get_or s.made.reach n 0) s.made.records.records)
 
   reach_is : reach ≡ length o.functions + length (Placeds k)
   reach_is = notes.reach n le ∙ ap (λ m. length o.functions + m) (sym (placed_length o.sizes o.order w (scopes_of o.functions) at k))
@@ -87,7 +87,7 @@ module _ {C : Type 0} (K : Structure C) (L : Lawful K) (o : Outline) (area : Lis
 
   from_listed : reached ≡ take reach (listed s.made.records)
   from_listed =
-      sym (take-map placed_of reach (take s.made.records.len s.made.records.records) ∙ ap (map placed_of) (take-take reach s.made.records.len s.made.records.records inside))
+      sym (take-map tabled reach (take s.made.records.len s.made.records.records) ∙ ap (map tabled) (take-take reach s.made.records.len s.made.records.records inside))
 
   reached_is : reached ≡ o.functions ++ Placeds k
   reached_is =
@@ -109,7 +109,7 @@ module _ {C : Type 0} (K : Structure C) (L : Lawful K) (o : Outline) (area : Lis
   noted : (j : ℕ) → j < length reached → get_or s.lying.buckets j 0 ≡ bucket_in o.order (nth reached j)
   noted j h =
       let r = s.made.records in
-      let few : length reached ≡ reach = length-map (take reach r.records) placed_of ∙ length-take-le reach r.records (omega (arith, s.made.capped n, r.long)) in
+      let few : length reached ≡ reach = length-map (take reach r.records) tabled ∙ length-take-le reach r.records (omega (arith, s.made.capped n, r.long)) in
       notes.buckets j (omega (arith, listed_length r, inside))
       ∙ ap (λ (f : Option Placed). bucket_in o.order f) (sym (ap (λ (l : List Placed). nth l j) from_listed ∙ nth_take reach (listed r) j (omega arith)))
 

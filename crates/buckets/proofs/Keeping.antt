@@ -58,13 +58,12 @@ module _ (shape : Shape) (plan : Plan) (fs : List Placed) (sizes : plan.sizes �
   pub able_planned : (w : ℕ) → w ≤ 6 → Able (sizes_of plan.sizes) (order_of plan.order) w fs
   able_planned w narrow = as_planned (λ s x l. Able s x w l) (able_here shape w narrow)
 
-  pub spacious_planned : (w at cells : ℕ) → w ≤ 6 → (outline shape).used ≤ at → mini_suits w (frame (outline shape)) ≡ true → at + mini_room w (frame (outline shape)) ≤ cells → cells ≤ 16384
+  pub spacious_planned : (w at cells : ℕ) → w ≤ 6 → (outline shape).used ≤ at → mini_suits w (frame (outline shape)) ≡ true → at + mini_room w (frame (outline shape)) ≤ cells
       → Spacious (sizes_of plan.sizes) (order_of plan.order) w fs at cells
-  spacious_planned w at cells narrow behind suited there small =
+  spacious_planned w at cells narrow behind suited there =
       as_planned (λ s x l. Spacious s x w l at cells) (record {
         below = functions_below shape w narrow at behind;
         room = omega (arith, there, cond-true (mini_suits w (frame (outline shape))) (all_cells (outline shape).sizes (scopes_made (outline shape).order w (scopes_of (outline shape).functions) (length (outline shape).order))) 0 suited);
-        small = small;
       })
 
   pub room_counted : (w n : ℕ) (t : Bool) → t ≡ ((leb 1 w && leb w 6) && short w (scopes_of fs)) → t ≡ true → n ≡ all_cells (sizes_of plan.sizes) (scopes_made (order_of plan.order) w (scopes_of fs) (length (order_of plan.order)))

@@ -3,25 +3,25 @@ use Rattle.std.proofs.Common.{◌≡◌, ℕ, zero, suc, ◌+◌, ◌<◌, ◌�
 use Rattle.std.proofs.lemmas.List.{append_assoc, append-nil, drop_more, at_drop_more, at_drop_all, get_or-map, get_or-take, length-take-le, get_or-set_same, get_or-set_other, length-set}
 use Rattle.std.proofs.lemmas.Bool.{cases_eq, eq-eqb, ne_eqb}
 use Rattle.variables.specs.Lists.{has}
-use Rattle.problems.specs.Records.{Placed, placed_of, nth}
-use Rattle.problems.specs.declared.plain.FunctionRecord.{FunctionRecord}
+use Rattle.problems.specs.Records.{Placed, nth}
 use Rattle.problems.proofs.Placements.{used_length}
 use Rattle.floors.specs.Settings.{kept}
+use Rattle.buckets.specs.declared.plain.TableRecord.{TableRecord}
 use Rattle.buckets.specs.declared.plain.Records.{Records}
-use Rattle.buckets.specs.Listed.{listed}
+use Rattle.buckets.specs.Listed.{listed, tabled}
 use Rattle.buckets.specs.Processed.{scopes_of}
 use Rattle.buckets.specs.Sources.{short}
 
 pub listed_length : (r : Records) → length (listed r) ≡ r.len
-listed_length r = used_length placed_of r.len r.records (omega arith)
+listed_length r = used_length tabled r.len r.records (omega arith)
 
 -- what the rest of a list of records begins with
-pub listed_drop : (r : Records) (k : ℕ) (d : FunctionRecord) → k < r.len → drop k (listed r) ≡ placed_of (get_or r.records k d) ∷ drop (k + 1) (listed r)
+pub listed_drop : (r : Records) (k : ℕ) (d : TableRecord) → k < r.len → drop k (listed r) ≡ tabled (get_or r.records k d) ∷ drop (k + 1) (listed r)
 listed_drop r k d h =
-    let p : Placed = placed_of d in
+    let p : Placed = tabled d in
     drop_more (listed r) k p (omega (arith, listed_length r))
     ∙ ap (λ (x : Placed). x ∷ drop (k + 1) (listed r))
-    (get_or-map placed_of (take r.len r.records) k d p (omega (arith, length-take-le r.len r.records (omega arith))) ∙ ap placed_of (get_or-take r.len r.records k d h))
+    (get_or-map tabled (take r.len r.records) k d p (omega (arith, length-take-le r.len r.records (omega arith))) ∙ ap tabled (get_or-take r.len r.records k d h))
 
 -- a filter in a loop: what was kept, and what will be
 module _ {A : Type 0} (p : A → Bool) (xs : List A) (i : ℕ) (x : A) (so_far whole : List A) (next : drop i xs ≡ x ∷ drop (i + 1) xs) (before : so_far ++ kept p (drop i xs) ≡ whole) where
@@ -53,9 +53,9 @@ pub counted : (p : ℕ → Bool) (xs : List ℕ) (i n whole : ℕ) → length xs
 counted p xs i n whole h before = let step = at_drop_all (λ l. length (kept p l)) xs i h in omega arith
 
 -- one record more of those of a job
-pub next_placed : (fs : List Placed) (k : ℕ) (f : FunctionRecord) → nth fs k ≡ Some (placed_of f) → take (k + 1) fs ≡ take k fs ++ placed_of f ∷ []
+pub next_placed : (fs : List Placed) (k : ℕ) (f : Placed) → nth fs k ≡ Some f → take (k + 1) fs ≡ take k fs ++ f ∷ []
 next_placed [] k f e = grind arith
-next_placed (g ∷ fs) zero f e = let same : g ≡ placed_of f = cc in ap (λ (x : Placed). x ∷ []) same
+next_placed (g ∷ fs) zero f e = let same : g ≡ f = cc in ap (λ (x : Placed). x ∷ []) same
 next_placed (g ∷ fs) (suc k) f e = let ih = next_placed fs k f e in rw (add-one (suc k)) (ap (λ (l : List Placed). g ∷ l) (rw (add-one k) at ih))
 
 -- marking the variables of a scope in slots

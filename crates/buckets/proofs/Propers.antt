@@ -6,14 +6,14 @@ use Rattle.std.proofs.lemmas.List.{length-take}
 use Rattle.std.proofs.lemmas.Bool.{cond_both, cases_Bool, and_parts, and_from, not-true, le-leb, or_left}
 use Rattle.variables.specs.Lists.{has, known, distinct}
 use Rattle.variables.specs.Rules.{proper}
-use Rattle.problems.specs.Records.{Placed, placed_of}
-use Rattle.problems.specs.declared.plain.FunctionRecord.{FunctionRecord}
+use Rattle.problems.specs.Records.{Placed}
+use Rattle.buckets.specs.declared.plain.TableRecord.{TableRecord}
 use Rattle.floors.specs.Settings.{kept}
 use Rattle.floors.specs.ByNumber.{bucket_of}
 use Rattle.floors.specs.Shapes.{Distinct}
 use Rattle.floors.specs.Scopes.{has_kept, kept_has}
 use Rattle.buckets.specs.declared.plain.Records.{Records}
-use Rattle.buckets.specs.Listed.{listed}
+use Rattle.buckets.specs.Listed.{listed, tabled}
 use Rattle.buckets.specs.Joining.{names, taken}
 use Rattle.buckets.proofs.Filters.{lies_has}
 use Rattle.buckets.proofs.Bounds.{kept_few, but_less, getD_has}
@@ -42,7 +42,7 @@ distinct_kept p (x ∷ xs) h =
 pub listed_few : (r : Records) → All (λ (f : Placed). length f.scope ≤ 5) (listed r)
 listed_few r = each (take r.len r.records)
   where
-    each : (rs : List FunctionRecord) → All (λ (f : Placed). length f.scope ≤ 5) (map placed_of rs)
+    each : (rs : List TableRecord) → All (λ (f : Placed). length f.scope ≤ 5) (map tabled rs)
     each [] = tt
     each (f ∷ rs) = (omega (arith, length-take f.scope.len f.scope.variables, f.scope.few), each rs)
 

@@ -194,7 +194,6 @@ module _ {C : Type 0} (K : Structure C) (sizes order : List ℕ) (w : ℕ) (fs :
           (All-weaker (λ (f : Placed). f.start + cells sizes f.scope ≤ at) (λ (f : Placed). f.start + cells sizes f.scope ≤ end) (λ f h. omega (arith, h, gone.ends)) fs spacious.below)
           (laid_below sizes at end (Placeds k) laid));
       room = omega (arith, gone.ends, gone.long, spacious.room, ap (all_cells sizes) on, cells_append sizes (Scopes k) (scopes_from order w (i - 1 + 1) (scopes_of rs)), scopes_longer sizes order w (scopes_of fs) at (N - (i - 1)) N (omega arith));
-      small = omega (arith, gone.long, spacious.small);
     }
 
     module _ (rs' : List Placed) (area' : List C) (end' : ℕ) (done : Processed K sizes order w (i - 1) rs rs' area area' end end') where

@@ -18,7 +18,6 @@ pub record Able (sizes order : List ℕ) (w : ℕ) (fs : List Placed) : Type 0 w
 pub record Spacious (sizes order : List ℕ) (w : ℕ) (fs : List Placed) (at cells : ℕ) : Type 0 where
   pub below : Below sizes at fs
   pub room : at + all_cells sizes (scopes_made order w (scopes_of fs) (length order)) ≤ cells
-  pub small : cells ≤ 16384
 
 -- the buckets after i have been processed, in an area with tables from `at` to `end`
 pub record Gone {C : Type 0} (K : Structure C) (sizes order : List ℕ) (w : ℕ) (fs : List Placed) (area : List C) (at i : ℕ) (rs : List Placed) (reach : List ℕ) (area' : List C) (end : ℕ) : Type 0 where

@@ -24,7 +24,6 @@ pub record Roomy (sizes order : List ℕ) (w p : ℕ) (fs : List Placed) (end ce
   pub inside : (u : ℕ) → names fs u ≡ true → has order u ≡ true
   pub below : Below sizes end fs
   pub room : end + all_cells sizes (scopes_from order w (p + 1) (scopes_of fs)) ≤ cells
-  pub small : cells ≤ 16384
 
 -- the messages of bucket p + 1 are filed behind the other records, and their tables written from `end` on, and nothing else
 pub record Processed {C : Type 0} (K : Structure C) (sizes order : List ℕ) (w p : ℕ) (fs fs' : List Placed) (area area' : List C) (end end' : ℕ) : Type 0 where

@@ -9,8 +9,8 @@ use crate::message::others;
 use crate::parting::part;
 use crate::plain::{Plan, Records};
 use crate::table::write;
+use crate::table_record::TableRecord;
 use costs::Cost;
-use problems::functions::FunctionRecord;
 
 // Files the messages of the bucket of the p-th variable from 0, as if their tables stood nowhere, and answers their cells.
 pub(crate) fn count_bucket(plan: &Plan, records: &mut Records, p: usize) -> usize
@@ -27,7 +27,7 @@ pub(crate) fn count_bucket(plan: &Plan, records: &mut Records, p: usize) -> usiz
     while waiting.len > 0 {
         let parted = part(&waiting, &plan.order, plan.width);
         let scope = others(&plan.order, &plan.sizes, &parted.members, variable);
-        records.push(FunctionRecord::message(scope, number, 0));
+        records.push(TableRecord::message(scope, number, 0));
         cells += scope.table_cells(&plan.sizes);
         waiting = parted.rest;
     }
@@ -54,7 +54,7 @@ pub(crate) fn fill_bucket<C: Cost>(
         let parted = part(&waiting, &plan.order, plan.width);
         let scope = others(&plan.order, &plan.sizes, &parted.members, variable);
         write(&parted.members, &plan.sizes, &scope, variable, area, at);
-        records.push(FunctionRecord::message(scope, number, at));
+        records.push(TableRecord::message(scope, number, at));
         at += scope.table_cells(&plan.sizes);
         waiting = parted.rest;
     }

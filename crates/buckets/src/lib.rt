@@ -10,3 +10,4 @@ pub mod plain;
 mod processing;
 mod records;
 mod table;
+pub mod table_record;

@@ -1,18 +1,17 @@
 // Mini-bucket: the functions that lie in the prefix, combined with messages that stand for the others.
 ghost use Rattle.std.specs.Prelude.{◌≡◌, ℕ, [], length, slice_index};
 ghost use Rattle.std.specs.Option.{option_map};
-ghost use Rattle.problems.specs.Records.{placed_of, nth};
-ghost use Rattle.buckets.specs.Listed.{listed};
+ghost use Rattle.problems.specs.Records.{nth};
+ghost use Rattle.buckets.specs.Listed.{listed, tabled};
 ghost use Rattle.buckets.specs.Made.{SameMessages};
 ghost use Rattle.buckets.specs.Sources.{mini_bucket_rules, messages};
 ghost use Rattle.buckets.specs.Sounds.{mini_bucket_sound};
 
 pub use crate::plain::MiniBucket;
-use crate::plain::{Lying, Made, Plan, Records};
+use crate::plain::{Lying, Made, Plan, Records, TableRecord};
 use crate::processing::{count, make, suits};
 use costs::Cost;
 use floors::source::FloorSource;
-use problems::functions::FunctionRecord;
 use problems::shape::Shape;
 use variables::prefix::Prefix;
 
@@ -51,8 +50,8 @@ impl MiniBucket {
     }
 
     // A message by its number, in the order made.
-    pub fn message(&self, number: usize) -> Option<FunctionRecord>
-        ensures { option_map placed_of result ≡ nth (messages self.now) number }
+    pub fn message(&self, number: usize) -> Option<TableRecord>
+        ensures { option_map tabled result ≡ nth (messages self.now) number }
     {
         if number < self.message_count() {
             Some(self.made.records.records[self.entered + number])

@@ -1,14 +1,22 @@
 // What the mini-bucket source is made of. The functions of these records stand in the files of their names.
 ghost use Rattle.std.specs.Prelude.{◌≡◌, ℕ, ◌≤◌, length, slice_index};
 
-use problems::functions::FunctionRecord;
 use variables::order::Order;
+use variables::scope::Scope;
 use variables::sizes::Sizes;
+
+// A function or a message: its scope, the bucket that it came from, and the cell at which its table starts, in an area of any length.
+#[derive(Clone, Copy)]
+pub struct TableRecord {
+    pub(crate) scope: Scope,
+    pub(crate) origin: u8,
+    pub(crate) start: usize,
+}
 
 // Records one after the other: 64 functions and 320 messages at most.
 #[derive(Clone, Copy)]
 pub struct Records {
-    pub(crate) records: [FunctionRecord; 384],
+    pub(crate) records: [TableRecord; 384],
     pub(crate) len: usize,
     ghost long: { length records ≡ 384 },
     ghost few: { len ≤ 384 },

@@ -4,15 +4,14 @@ ghost use Rattle.costs.specs.Structures.{total};
 ghost use Rattle.problems.specs.Outlines.{outline};
 ghost use Rattle.variables.specs.Assignments.{of};
 ghost use Rattle.variables.specs.Records.{sizes_of, values_of, order_of};
-ghost use Rattle.problems.specs.Records.{placed_of, held};
+ghost use Rattle.problems.specs.Records.{held};
 ghost use Rattle.floors.specs.Settings.{kept};
-ghost use Rattle.buckets.specs.Listed.{listed};
+ghost use Rattle.buckets.specs.Listed.{listed, tabled};
 ghost use Rattle.buckets.specs.Joining.{lies_at};
 
-use crate::plain::Records;
+use crate::plain::{Records, TableRecord};
 use costs::Cost;
 use floors::buckets::bucket;
-use problems::functions::FunctionRecord;
 use problems::shape::Shape;
 use variables::order::Order;
 use variables::scope::Scope;
@@ -23,7 +22,7 @@ impl Records {
     pub(crate) fn none() -> Records
         ensures { listed result ≡ [] }
     {
-        let blank = FunctionRecord::message(Scope::none(), 0, 0);
+        let blank = TableRecord::message(Scope::none(), 0, 0);
         Records {
             records: [blank; 384],
             len: 0,
@@ -31,9 +30,9 @@ impl Records {
     }
 
     // One record more.
-    pub(crate) fn push(&mut self, function: FunctionRecord)
+    pub(crate) fn push(&mut self, function: TableRecord)
         requires { length (listed self.old) < 384 }
-        ensures { listed self.new ≡ listed self.old ++ placed_of function ∷ [] }
+        ensures { listed self.new ≡ listed self.old ++ tabled function ∷ [] }
     {
         let len = self.len;
         self.records[len] = function;
@@ -47,7 +46,7 @@ impl Records {
         let mut records = Records::none();
         for k in 0..shape.function_count() {
             if let Some(function) = shape.function(k) {
-                records.push(function);
+                records.push(TableRecord::entered(&function));
             }
         }
         records

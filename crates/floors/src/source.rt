@@ -24,7 +24,6 @@ pub trait FloorSource<C: Cost> {
         requires suited { rules.suits self.old (frame (outline shape.now)) ≡ true }
         requires behind { (outline shape.now).used ≤ at }
         requires there { at + rules.room self.old (frame (outline shape.now)) ≤ length area.old }
-        requires small { length area.old ≤ 16384 }
         ensures { Fills rules (outline shape.now) self.old self.new area.old area.new at };
 
     // The floor of a prefix, while the tables and the filled cells stand.

@@ -30,7 +30,7 @@ module _ {C A B : Type 0} (K : Structure C) (R : Rules C A) (S : Rules C B) (fir
 
   -- the second writes behind the first, whose cells and the tables then stand
   module _ (o : Outline) (laid : laid_from o.sizes 2 o.functions o.used ≡ true) (s s' : Greater A B) (area area₁ area₂ : List C) (at behind : ℕ)
-      (next : behind ≡ at + R.room s.first (frame o)) (after : o.used ≤ at) (small : at + (R.room s.first (frame o) + S.room s.second (frame o)) ≤ 16384)
+      (next : behind ≡ at + R.room s.first (frame o)) (after : o.used ≤ at) (small : at + (R.room s.first (frame o) + S.room s.second (frame o)) ≤ 18446744073709551615)
       (one : Fills R o s.first s'.first area area₁ at) (two : Fills S o s.second s'.second area₁ area₂ behind) where
     same_problem : problem o area₂ ≡ problem o area₁
     same_problem =

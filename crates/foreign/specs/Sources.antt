@@ -17,12 +17,12 @@ neutral_rules K = record {
 abbrev pub greater_of : {C : Type 0} → Structure C → C → C → C
 greater_of K a b = cond (K.at_most a b) b a
 
--- both suit; the cells of the second lie behind those of the first, all within an area of at most 16,384 cells
+-- both suit; the cells of the second lie behind those of the first, all at places that are numbers of 64 bits
 abbrev pub greater_rules : {C A B : Type 0} → Structure C → Rules C A → Rules C B → Rules C (Greater A B)
 greater_rules K R S = record {
   suits = λ s f. R.suits s.first f && S.suits s.second f;
   room = λ s f. min (R.room s.first f + S.room s.second f) 18446744073709551615;
   meaning = λ s p x. greater_of K (R.meaning s.first p x) (S.meaning s.second p x);
   filled = λ s o area at.
-      (at + (R.room s.first (frame o) + S.room s.second (frame o)) ≤ 16384) × R.filled s.first o area at × S.filled s.second o area (at + R.room s.first (frame o));
+      (at + (R.room s.first (frame o) + S.room s.second (frame o)) ≤ 18446744073709551615) × R.filled s.first o area at × S.filled s.second o area (at + R.room s.first (frame o));
 }

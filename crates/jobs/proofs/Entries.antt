@@ -4,7 +4,7 @@ use borrow.Rule.Slice.PartMut.{put_mid}
 use Rattle.std.proofs.lemmas.Bool.Decides.{nat_tests}
 use Rattle.variables.specs.Refusals.{first_of}
 use Rattle.variables.specs.Assignments.{cells}
-use Rattle.problems.specs.Outlines.{Outline, outline, entered, entering, problem}
+use Rattle.problems.specs.Outlines.{Outline, entered, entering, problem}
 use Rattle.problems.proofs.Amendments.{enter_problem}
 use Rattle.search.specs.Searches.{start as beginning}
 use Rattle.jobs.specs.declared.stage.Stage.TheVariants.{Draft}

@@ -14,7 +14,7 @@ use Rattle.floors.specs.Shapes.{shaped}
 use Rattle.floors.specs.Covers.{covers}
 use Rattle.costs.specs.Structures.{Structure}
 use Rattle.variables.specs.Refusals.{first_of}
-use Rattle.problems.specs.Outlines.{outline, problem}
+use Rattle.problems.specs.Outlines.{problem}
 use Rattle.variables.proofs.Rows.{no_row}
 use Rattle.floors.specs.Rules.{Rules, Told}
 use Rattle.jobs.specs.declared.answer.Verdict.{Verdict}

@@ -4,7 +4,7 @@ use Rattle.std.proofs.lemmas.List.{set-get_or, get_or-set_same}
 use Rattle.std.proofs.lemmas.Bool.{cond-true}
 use Rattle.costs.specs.Structures.{Structure}
 use Rattle.problems.specs.Problems.{Problem}
-use Rattle.problems.specs.Outlines.{outline, problem}
+use Rattle.problems.specs.Outlines.{problem}
 use Rattle.floors.specs.Settings.{Formed}
 use Rattle.floors.specs.Rules.{Rules}
 use Rattle.search.specs.Searches.{Spot, Search, ran, ended, steady}

@@ -1,5 +1,5 @@
 -- What each call answers and does: its rows of the table of refusals, and what an accepted one leaves.
-use Rattle.std.specs.Prelude.{◌≡◌, ℕ, ◌+◌, not, ◌||◌, List, [], ◌∷◌, ◌++◌, length, take, drop, replicate, ◌==◌, nat_lt, slice_set}
+use Rattle.std.specs.Prelude.{◌≡◌, ℕ, not, ◌||◌, List, [], ◌∷◌, ◌++◌, length, take, drop, replicate, ◌==◌, nat_lt, slice_set}
 use Rattle.variables.specs.declared.refusal.Refusal.TheVariants.{Area, AreaLength}
 use Rattle.variables.specs.Refusals.{Row}
 use Rattle.variables.specs.Rules.{sizes_rows}

@@ -12,7 +12,7 @@ use variables::prefix::Prefix;
 // The source's floor of the prefix 0, 1, once its cells are filled; neutral where they do not fit.
 fn floor<C: Cost, S: FloorSource<C>>(source: &mut S, shape: &Shape, area: &mut [C]) -> C {
     let at = shape.used();
-    if !source.suits(shape) || area.len() > 16384 || at > area.len() {
+    if !source.suits(shape) || at > area.len() {
         return C::neutral();
     }
     if source.room(shape) > area.len() - at {

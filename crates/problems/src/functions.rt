@@ -1,12 +1,11 @@
 // Function records in the order of their numbers.
-ghost use Rattle.std.specs.Prelude.{◌≡◌, ◌≤◌, min, [], ◌∷◌, ◌++◌, length};
+ghost use Rattle.std.specs.Prelude.{◌≡◌, ◌≤◌, [], ◌∷◌, ◌++◌, length};
 ghost use Rattle.std.specs.Option.{option_map};
 ghost use Rattle.variables.specs.Records.{scope_of};
 ghost use Rattle.problems.specs.Records.{Placed, nth, placed_of, placed};
 ghost use Rattle.variables.specs.Refusals.{Answers, first_of};
 ghost use Rattle.problems.specs.Rules.{function_rows};
 
-use crate::drafting::MOST_CELLS;
 pub use crate::plain::{FunctionRecord, Functions};
 use variables::refusal::Refusal;
 use variables::scope::Scope;
@@ -26,17 +25,6 @@ impl FunctionRecord {
             scope,
             origin: ENTERED,
             start,
-        }
-    }
-
-    // The record of a message, written whole. No area reaches past cell 16,384, so a later start counts as that.
-    pub fn message(scope: Scope, origin: u8, start: usize) -> FunctionRecord
-        ensures { placed_of result ≡ record { scope = scope_of scope; origin = origin; start = min start 16384 } }
-    {
-        FunctionRecord {
-            scope,
-            origin,
-            start: start.min(MOST_CELLS),
         }
     }
 

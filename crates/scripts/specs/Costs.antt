@@ -1,5 +1,5 @@
 -- Costs as words: what a word spells, and what is printed of a cost.
-use Rattle.std.specs.Prelude.{ℕ, suc, ◌+◌, Bool, cond, List, [], ◌∷◌, ◌++◌, length, take, drop, Some, None, codes, decimal, Option, ◌==◌, nat_le, nat_lt}
+use Rattle.std.specs.Prelude.{ℕ, suc, ◌+◌, cond, List, [], ◌∷◌, ◌++◌, length, take, drop, Some, None, codes, decimal, Option, ◌==◌, nat_le, nat_lt}
 use Rattle.costs.specs.declared.pair.Pair.{Pair}
 use Rattle.costs.specs.Kinds.{ranked_of}
 use Rattle.words.specs.Numbers.{number}

@@ -1,5 +1,5 @@
 -- The name of a text that was read is its first word.
-use Rattle.std.proofs.Common.{◌≡◌, ℕ, List, [], ◌∷◌, Some, Ok, sym, refl, ap, ◌∙◌, arith}
+use Rattle.std.proofs.Common.{◌≡◌, ℕ, List, [], ◌∷◌, Some, Ok, ap, ◌∙◌, arith}
 use Rattle.words.specs.Words.{Word, name_of}
 use Rattle.words.specs.Readings.{Reading, and_then, next}
 use Rattle.words.specs.Ruled.{any, number_by}

@@ -12,7 +12,7 @@ use Rattle.problems.proofs.Bounds.{cell_below, fits_ranged}
 use Rattle.words.specs.Words.{Word}
 use Rattle.wcsp.specs.Layouts.{Listed, Entry, Document, document}
 use Rattle.wcsp.specs.Tables.{amend, amended}
-use Rattle.wcsp.specs.Described.{function_of, described}
+use Rattle.wcsp.specs.Described.{function_of}
 use Rattle.wcsp.specs.Costs.{same, listed_cost, cost_of, Costs}
 use Rattle.wcsp.proofs.Radix.{cell_apart}
 use Rattle.wcsp.proofs.Sound.{AllFit, Sound, AllSound, document_sound}

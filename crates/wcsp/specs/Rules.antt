@@ -1,5 +1,5 @@
 -- What each number of a text has to keep to, besides being a number.
-use Rattle.std.specs.Prelude.{ℕ, ◌+◌, Bool, cond, not, ◌&&◌, List, Some, None, Option, nat_le, nat_lt}
+use Rattle.std.specs.Prelude.{ℕ, ◌+◌, cond, not, ◌&&◌, List, Some, None, Option, nat_le, nat_lt}
 use Rattle.variables.specs.declared.refusal.Refusal.TheVariants.{Variables, Size, Scope, Functions, Room, Tuple}
 use Rattle.variables.specs.Lists.{has}
 use Rattle.words.specs.declared.fault.Flaw.{Flaw}

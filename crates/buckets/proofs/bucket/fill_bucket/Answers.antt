@@ -77,12 +77,24 @@ loop-waiting-preserved g c =
     let scope = c.others-scope.ensures ∙ ap₂ (λ v (m : List Placed). kept (λ u. not (eqb u v)) (kept (names m) order)) var ms in
     let some : 0 < length (listed ws) = omega (arith, listed_length ws, c.loop-waiting-test.true) in
     let room = making_room K sizes order plan.width c.args.p (listed c.args.records.now) c.args.area.now c.args.end c.requires.roomy (listed l.records) (listed ws) l.area l.at l.invariant some in
-    let low : min l.at 16384 ≡ l.at = omega (arith, room, c.requires.roomy.small, l.invariant.long) in
     making_goes K sizes order plan.width c.args.p (listed c.args.records.now) c.args.area.now c.args.end c.requires.roomy (listed l.records) (listed ws) l.area l.at l.invariant some
     _ _ (scope_of c.others-scope.result) _ _ scope
-    (c.push.ensures ∙ ap (λ (f : Placed). listed l.records ++ f ∷ []) (c.message.ensures ∙ ap (λ i. record { scope = scope_of c.others-scope.result; origin = c.args.p + 1; start = i }) low))
+    (c.push.ensures ∙ ap (λ (f : Placed). listed l.records ++ f ∷ []) c.message.ensures)
     c.part-parted.ensures.rest (ap (λ n. l.at + n) c.table_cells-at.ensures.count)
     (c.write.ensures ∙ ap₂ (λ v (m : List Placed). take l.at l.area ++ (tabulate sizes (scope_of c.others-scope.result) (eliminated K sizes v (map (function_in sizes l.area) m)) (λ u. 0) ++ drop (l.at + cells sizes (scope_of c.others-scope.result)) l.area)) var ms)
+
+pub overflow_add-at : goal.overflow_add-at
+overflow_add-at g c =
+    let plan = c.args.plan.now in
+    let sizes = sizes_of plan.sizes in
+    let order = order_of plan.order in
+    let ws = c.loop-waiting.waiting in
+    let l = c.loop-waiting in
+    let var = ap (λ (x : List ℕ). get_or x c.args.p 0) c.variables.ensures in
+    let scope = c.others-scope.ensures ∙ ap₂ (λ v (m : List Placed). kept (λ u. not (eqb u v)) (kept (names m) order)) var c.part-parted.ensures.members in
+    let some : 0 < length (listed ws) = omega (arith, listed_length ws, c.loop-waiting-test.true) in
+    let room = making_room g.C.Cost.structure sizes order plan.width c.args.p (listed c.args.records.now) c.args.area.now c.args.end c.requires.roomy (listed l.records) (listed ws) l.area l.at l.invariant some in
+    Fits-below {n = 18446744073709551615} tt (omega (arith, room, ap (cells sizes) scope, c.table_cells-at.ensures.count, l.invariant.long))
 
 pub loop-waiting-smaller : goal.loop-waiting-smaller
 loop-waiting-smaller g c =

@@ -2,8 +2,8 @@ use Rattle.std.proofs.Common.{◌≡◌, ◌+◌, Bool, true, false, ◌&&◌, l
 use Rattle.std.proofs.lemmas.List.{at_drop_all}
 use Rattle.std.proofs.lemmas.Bool.{le-leb, lt-leb}
 use Rattle.variables.specs.Records.{scope_of}
-use Rattle.problems.specs.Records.{placed_of}
-use Rattle.buckets.specs.Listed.{listed}
+
+use Rattle.buckets.specs.Listed.{listed, tabled}
 use Rattle.buckets.specs.Processed.{scopes_of}
 use Rattle.buckets.specs.Sources.{short}
 use Rattle.buckets.proofs.Listing.{listed_length, listed_drop, short_more}
@@ -15,7 +15,7 @@ returns-then-variables-width c =
     let w = c.args.width in
     let k = c.loop-k.k in
     let item = get_or r.records k c.index-functions-k.result in
-    let step = short_more w (listed r) k (placed_of item) (listed_drop r k c.index-functions-k.result c.loop-k-test.true) in
+    let step = short_more w (listed r) k (tabled item) (listed_drop r k c.index-functions-k.result c.loop-k-test.true) in
     let long : length (scope_of item.scope) ≡ length c.variables.result.now = sym (ap length (c.variables.ensures ∙ ap scope_of c.scope.ensures)) in
     let bad : leb (length (scope_of item.scope)) w ≡ false = lt-leb _ w (omega (arith, c.if-variables-width.true)) in
     let none : short w (scopes_of (listed r)) ≡ false = sym c.loop-k.invariant ∙ step ∙ ap (λ (b : Bool). b && short w (scopes_of (drop (k + 1) (listed r)))) bad in
@@ -28,7 +28,7 @@ loop-k-preserved c =
     let w = c.args.width in
     let k = c.loop-k.k in
     let item = get_or r.records k c.index-functions-k.result in
-    let step = short_more w (listed r) k (placed_of item) (listed_drop r k c.index-functions-k.result c.loop-k-test.true) in
+    let step = short_more w (listed r) k (tabled item) (listed_drop r k c.index-functions-k.result c.loop-k-test.true) in
     let long : length (scope_of item.scope) ≡ length c.variables.result.now = sym (ap length (c.variables.ensures ∙ ap scope_of c.scope.ensures)) in
     let good : leb (length (scope_of item.scope)) w ≡ true = le-leb _ w (omega (arith, c.if-variables-width.false)) in
     sym (step ∙ ap (λ (b : Bool). b && short w (scopes_of (drop (k + 1) (listed r)))) good) ∙ c.loop-k.invariant

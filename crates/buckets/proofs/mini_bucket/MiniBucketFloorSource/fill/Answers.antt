@@ -26,7 +26,7 @@ make-made-requires g c =
     record {
       able = subst (λ (x : ℕ). Able (sizes_of plan.sizes) (order_of plan.order) x fs) width (able_planned shape plan fs c.of-plan.ensures.sizes c.of-plan.ensures.order c.of-functions.ensures w narrow);
       spacious = subst (λ (x : ℕ). Spacious (sizes_of plan.sizes) (order_of plan.order) x fs c.args.at (length c.args.area.now)) width
-          (spacious_planned shape plan fs c.of-plan.ensures.sizes c.of-plan.ensures.order c.of-functions.ensures w c.args.at (length c.args.area.now) narrow c.requires.behind c.requires.suited c.requires.there c.requires.small);
+          (spacious_planned shape plan fs c.of-plan.ensures.sizes c.of-plan.ensures.order c.of-functions.ensures w c.args.at (length c.args.area.now) narrow c.requires.behind c.requires.suited c.requires.there);
     }
 
 pub returns : goal.returns

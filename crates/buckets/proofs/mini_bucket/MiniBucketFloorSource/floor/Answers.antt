@@ -5,7 +5,7 @@ use Rattle.problems.specs.Outlines.{outline, problem}
 use Rattle.variables.specs.Assignments.{of}
 use Rattle.problems.specs.Problems.{cost}
 use Rattle.variables.specs.Records.{sizes_of, values_of}
-use Rattle.problems.specs.Records.{Placed, placed_of, nth, held, held_by}
+use Rattle.problems.specs.Records.{Placed, nth, held, held_by}
 use Rattle.problems.proofs.Placements.{used_length, used_nth}
 use Rattle.floors.specs.MiniBuckets.{mini_bucket_floor}
 use Rattle.floors.specs.Shapes.{shaped}
@@ -13,6 +13,7 @@ use Rattle.floors.specs.Climbs.{admissible}
 use Rattle.floors.specs.Admissions.{mini_bucket_climbs}
 use Rattle.floors.proofs.Pickings.{rest, picks, passes, all_picked}
 use Rattle.floors.proofs.Paids.{given}
+use Rattle.buckets.specs.Listed.{tabled}
 use Rattle.buckets.proofs.Flooring.{mini_told}
 use Rattle.buckets.proofs.mini_bucket.MiniBucketFloorSource.floor.Goals as goal
 use Rattle.buckets.proofs.mini_bucket.MiniBucketFloorSource.floor.Goals.{then-self-k, else-self-k}
@@ -24,7 +25,7 @@ loop-k-init g c =
     let s = c.args.self.now in
     let n = c.args.prefix.now.len in
     let a = of (values_of c.args.prefix.now.setting) in
-    let fs = map placed_of (take (get_or s.made.reach n 0) s.made.records.records) in
+    let fs = map tabled (take (get_or s.made.reach n 0) s.made.records.records) in
     ap (λ (sum : g.row.C.Denot). rest K o.sizes c.args.area.now a s.lying.buckets n fs sum 0) c.neutral-sum.ensures
 
 pub loop-k-preserved : goal.loop-k-preserved
@@ -37,18 +38,18 @@ loop-k-preserved g c =
     let n = c.args.prefix.now.len in
     let a = of (values_of c.args.prefix.now.setting) in
     let reach = get_or s.made.reach n 0 in
-    let fs = map placed_of (take reach s.made.records.records) in
+    let fs = map tabled (take reach s.made.records.records) in
     let k = c.loop-k.k in
     let len = c.len-len.ensures in
     let few : k < reach = omega (arith, c.loop-k-test.true, ap (λ m. get_or s.made.reach m 0) len) in
     let room : reach ≤ length s.made.records.records = omega (arith, s.made.capped n, s.made.records.long) in
-    let long : k < length fs = omega (arith, used_length placed_of reach s.made.records.records room) in
+    let long : k < length fs = omega (arith, used_length tabled reach s.made.records.records room) in
     elim c.if-self-k.branch [
       | then-self-k w ↦
           let item = get_or s.made.records.records k w.index-self-k.result in
-          let at = used_nth placed_of reach s.made.records.records room k w.index-self-k.result few in
+          let at = used_nth tabled reach s.made.records.records room k w.index-self-k.result few in
           let here : w.cost.result ≡ held_by K o.sizes area a (nth fs k) =
-          w.cost.ensures ∙ ap₂ (λ (z : Sizes) (x : Setting). held K (sizes_of z) area (of (values_of x)) (placed_of item)) c.sizes-sizes.ensures c.setting-setting.ensures ∙ ap (λ (f : Option Placed). held_by K o.sizes area a f) (sym at) in
+          w.cost.ensures ∙ ap₂ (λ (z : Sizes) (x : Setting). held K (sizes_of z) area (of (values_of x)) (tabled item)) c.sizes-sizes.ensures c.setting-setting.ensures ∙ ap (λ (f : Option Placed). held_by K o.sizes area a f) (sym at) in
           ap (λ (sum : g.row.C.Denot). rest K o.sizes area a bs n fs sum (k + 1)) (w.sum-is ∙ w.combine-sum.ensures)
           ∙ picks K o.sizes area a bs n fs c.loop-k.sum w.cost.result k _ long (omega (arith, w.if-self-k.true)) here c.loop-k.invariant
       | else-self-k w ↦
@@ -67,9 +68,9 @@ returns g c =
     let n = c.args.prefix.now.len in
     let values = values_of c.args.prefix.now.setting in
     let reach = get_or s.made.reach n 0 in
-    let fs = map placed_of (take reach s.made.records.records) in
+    let fs = map tabled (take reach s.made.records.records) in
     let room : reach ≤ length s.made.records.records = omega (arith, s.made.capped n, s.made.records.long) in
-    let end : length fs ≤ c.loop-k.k = omega (arith, used_length placed_of reach s.made.records.records room, c.loop-k-test.false, ap (λ m. get_or s.made.reach m 0) c.len-len.ensures) in
+    let end : length fs ≤ c.loop-k.k = omega (arith, used_length tabled reach s.made.records.records room, c.loop-k-test.false, ap (λ m. get_or s.made.reach m 0) c.len-len.ensures) in
     let sum = all_picked K o.sizes area (of values) s.lying.buckets n fs c.loop-k.sum c.loop-k.k _ end c.loop-k.invariant in
     record {
       told = λ le notes formed fits. sum ∙ mini_told K L o area formed values n le fits s c.args._at notes;

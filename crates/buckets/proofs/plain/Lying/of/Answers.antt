@@ -2,12 +2,12 @@ use Rattle.std.proofs.Common.{◌≡◌, Option, sym, ap, ◌∙◌, inl, inr, a
 use Rattle.std.proofs.lemmas.List.{length-set, get_or-set_same, get_or-set_other}
 use Rattle.std.proofs.lemmas.Bool.{cases_eq}
 use Rattle.variables.specs.Records.{order_of, scope_of}
-use Rattle.problems.specs.Records.{Placed, placed_of, nth}
+use Rattle.problems.specs.Records.{Placed, nth}
 use Rattle.variables.specs.declared.plain.Scope.{Scope}
 use Rattle.problems.proofs.Placements.{used_nth}
 use Rattle.floors.specs.ByNumber.{bucket_of}
 use Rattle.floors.specs.Sources.{bucket_in}
-use Rattle.buckets.specs.Listed.{listed}
+use Rattle.buckets.specs.Listed.{listed, tabled}
 use Rattle.buckets.proofs.Listing.{listed_length}
 use Rattle.buckets.proofs.plain.Lying.of.Goals as goal
 
@@ -18,7 +18,7 @@ loop-k-preserved c =
     let k = c.loop-k.k in
     let bs = c.loop-k.buckets in
     let inv = c.loop-k.invariant in
-    let at = used_nth placed_of r.len r.records (omega arith) k c.index-records-k.result c.loop-k-test.true in
+    let at = used_nth tabled r.len r.records (omega arith) k c.index-records-k.result c.loop-k-test.true in
     let here : c.bucket.result ≡ bucket_in order (nth (listed r) k) =
     c.bucket.ensures ∙ ap (λ (s : Scope). bucket_of order (scope_of s)) c.scope.ensures ∙ ap (λ (f : Option Placed). bucket_in order f) (sym at) in (
       length-set bs k c.bucket.result ∙ inv.0,

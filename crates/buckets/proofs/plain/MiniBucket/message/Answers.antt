@@ -1,8 +1,9 @@
 use Rattle.std.proofs.Common.{◌≡◌, ℕ, ◌+◌, ◌<◌, length, sym, ◌∙◌, arith}
 use mir.Facts.{Fits-below}
 use Rattle.std.proofs.lemmas.List.{length-drop}
-use Rattle.problems.specs.Records.{placed_of}
+
 use Rattle.problems.proofs.Placements.{used_nth, nth_past}
+use Rattle.buckets.specs.Listed.{tabled}
 use Rattle.buckets.specs.declared.plain.MiniBucket.{MiniBucket}
 use Rattle.buckets.specs.Listed.{listed as all_listed}
 use Rattle.buckets.specs.Sources.{messages}
@@ -29,7 +30,7 @@ returns-then-number-message_count c =
     let s = c.args.self.now in
     let r = s.made.records in
     sym (nth_drop s.entered (all_listed r) c.args.number
-    ∙ used_nth placed_of r.len r.records (omega (arith, r.few, r.long)) (s.entered + c.args.number) c.index-self-self.result (there s c.args.number c.message_count.result c.message_count.ensures c.if-number-message_count.true))
+    ∙ used_nth tabled r.len r.records (omega (arith, r.few, r.long)) (s.entered + c.args.number) c.index-self-self.result (there s c.args.number c.message_count.result c.message_count.ensures c.if-number-message_count.true))
 
 pub returns-else-number-message_count : goal.returns-else-number-message_count
 returns-else-number-message_count c = sym (nth_past (messages c.args.self.now) c.args.number (omega (arith, c.message_count.ensures, c.if-number-message_count.false)))

@@ -3,9 +3,9 @@ use Rattle.std.proofs.lemmas.List.{at_drop_more, at_drop_all, length-map}
 use Rattle.costs.proofs.Totals.{folded, folded_total}
 use Rattle.variables.specs.Assignments.{of}
 use Rattle.variables.specs.Records.{sizes_of, values_of}
-use Rattle.problems.specs.Records.{held, placed_of}
+use Rattle.problems.specs.Records.{held}
 use Rattle.problems.proofs.Placements.{used_item}
-use Rattle.buckets.specs.Listed.{listed}
+use Rattle.buckets.specs.Listed.{listed, tabled}
 use Rattle.buckets.proofs.Listing.{listed_length}
 use Rattle.buckets.proofs.plain.Records.cost.Goals as goal
 
@@ -23,7 +23,7 @@ loop-k-preserved g c =
     let room : s.len ≤ length s.records = omega arith in
     let long : k < length costs = omega (arith, length-map (listed s) h, listed_length s) in
     let step = at_drop_more (folded K c.loop-k.sum) costs k K.neutral long in
-    let item = used_item h placed_of s.len s.records room k (omega arith) c.index-self-k.result K.neutral in
+    let item = used_item h tabled s.len s.records room k (omega arith) c.index-self-k.result K.neutral in
     let here : c.cost.result ≡ get_or costs k K.neutral = c.cost.ensures ∙ sym item in
     rw (c.combine-sum.ensures, here, ← step) c.loop-k.invariant
 

@@ -2,11 +2,11 @@ use Rattle.std.proofs.Common.{◌≡◌, ◌+◌, List, [], ◌∷◌, ◌++◌,
 use Rattle.std.proofs.lemmas.List.{length_push}
 use Rattle.std.proofs.lemmas.Bool.{eq-eqb, ne_eqb}
 use Rattle.variables.specs.Records.{order_of, scope_of}
-use Rattle.problems.specs.Records.{placed_of, Placed}
+use Rattle.problems.specs.Records.{Placed}
 use Rattle.variables.specs.declared.plain.Scope.{Scope}
 use Rattle.floors.specs.Settings.{kept}
 use Rattle.floors.specs.ByNumber.{bucket_of}
-use Rattle.buckets.specs.Listed.{listed}
+use Rattle.buckets.specs.Listed.{listed, tabled}
 use Rattle.buckets.specs.Joining.{lies_at}
 use Rattle.buckets.proofs.Listing.{listed_length, listed_drop, keeps, passes, kept_whole}
 use Rattle.buckets.proofs.plain.Records.lying.Goals as goal
@@ -32,14 +32,14 @@ loop-k-preserved c =
     let at : c.bucket.result ≡ bucket_of order (scope_of item.scope) = c.bucket.ensures ∙ ap (λ (s : Scope). bucket_of order (scope_of s)) c.scope.ensures in
     elim c.if-bucket-number.branch [
       | then-bucket-number w ↦
-          let more : listed c.if-bucket-number.lying ≡ listed c.loop-k.lying ++ placed_of item ∷ [] = ap listed w.lying-is ∙ w.push.ensures in (
-            keeps test (listed all) k (placed_of item) (listed c.loop-k.lying) _ next c.loop-k.invariant.0 (eq-eqb _ _ (sym at ∙ w.if-bucket-number.true)) _ more,
-            omega (arith, c.loop-k.invariant.1, ap length more, length_push (listed c.loop-k.lying) (placed_of item)),
+          let more : listed c.if-bucket-number.lying ≡ listed c.loop-k.lying ++ tabled item ∷ [] = ap listed w.lying-is ∙ w.push.ensures in (
+            keeps test (listed all) k (tabled item) (listed c.loop-k.lying) _ next c.loop-k.invariant.0 (eq-eqb _ _ (sym at ∙ w.if-bucket-number.true)) _ more,
+            omega (arith, c.loop-k.invariant.1, ap length more, length_push (listed c.loop-k.lying) (tabled item)),
           )
       | else-bucket-number w ↦
           let same : listed c.if-bucket-number.lying ≡ listed c.loop-k.lying = ap listed w.lying-is in (
             ap (λ (l : List Placed). l ++ kept test (drop (k + 1) (listed all))) same
-                ∙ passes test (listed all) k (placed_of item) (listed c.loop-k.lying) _ next c.loop-k.invariant.0 (ne_eqb _ _ (λ e. w.if-bucket-number.false (at ∙ e))),
+                ∙ passes test (listed all) k (tabled item) (listed c.loop-k.lying) _ next c.loop-k.invariant.0 (ne_eqb _ _ (λ e. w.if-bucket-number.false (at ∙ e))),
             omega (arith, c.loop-k.invariant.1, ap length same),
           )
     ]

@@ -1,7 +1,7 @@
 use Rattle.std.proofs.Common.{Bool, false, ◌||◌, get_or, ap, arith}
 use Rattle.variables.specs.Records.{scope_of}
-use Rattle.problems.specs.Records.{placed_of}
-use Rattle.buckets.specs.Listed.{listed}
+
+use Rattle.buckets.specs.Listed.{listed, tabled}
 use Rattle.buckets.specs.Joining.{names}
 use Rattle.buckets.proofs.Listing.{listed_length, listed_drop}
 use Rattle.buckets.proofs.Marking.{named_more, named_all}
@@ -15,7 +15,7 @@ loop-k-preserved c =
     let s = c.args.self.now in
     let k = c.loop-k.k in
     let item = get_or s.records k c.index-self-k.result in
-    λ v l. named_more (listed s) k (placed_of item) (scope_of c.scope.result) v (get_or c.loop-k.named.named v false) (get_or c.add.new.self.named v false) (names (listed s) v)
+    λ v l. named_more (listed s) k (tabled item) (scope_of c.scope.result) v (get_or c.loop-k.named.named v false) (get_or c.add.new.self.named v false) (names (listed s) v)
     (ap scope_of c.scope.ensures) (listed_drop s k c.index-self-k.result c.loop-k-test.true) (c.loop-k.invariant v l) (c.add.ensures v l)
 
 pub returns : goal.returns

@@ -1,4 +1,4 @@
-use Rattle.std.proofs.Common.{List, [], ◌∷◌, ◌++◌, length, sym, ap, ◌∙◌, arith}
+use Rattle.std.proofs.Common.{List, [], ◌∷◌, ◌++◌, length, sym, ap, ap₂, ◌∙◌, arith}
 use Rattle.std.specs.Option.{option_map}
 use Rattle.std.proofs.lemmas.List.{length-take, take_all}
 use Rattle.problems.specs.Records.{placed_of, Placed}
@@ -19,8 +19,8 @@ loop-k-preserved c =
     let k = c.loop-k.k in
     elim c.match-function.branch [
       | in-Some w ↦
-          ap listed w.records-is ∙ w.push.ensures ∙ ap (λ (l : List Placed). l ++ placed_of w.in-Some.function ∷ []) c.loop-k.invariant
-          ∙ sym (next_placed fs k w.in-Some.function (sym c.function.ensures ∙ ap (option_map placed_of) w.in-Some.is))
+          ap listed w.records-is ∙ w.push.ensures ∙ ap₂ (λ (l : List Placed) (f : Placed). l ++ f ∷ []) c.loop-k.invariant w.entered.ensures
+          ∙ sym (next_placed fs k (placed_of w.in-Some.function) (sym c.function.ensures ∙ ap (option_map placed_of) w.in-Some.is))
       | in_default w ↦ absurd (omega (arith, nth_none fs k (sym w.in_default.ensures), c.function_count-k-end.ensures.count, c.loop-k-test.true))
     ]
 

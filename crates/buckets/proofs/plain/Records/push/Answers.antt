@@ -1,7 +1,8 @@
 use Rattle.std.proofs.Common.{◌∙◌, arith}
 use Rattle.std.proofs.lemmas.List.{length-set}
-use Rattle.problems.specs.Records.{placed_of}
+
 use Rattle.problems.proofs.Placements.{used_push}
+use Rattle.buckets.specs.Listed.{tabled}
 use Rattle.buckets.proofs.Listing.{listed_length}
 use Rattle.buckets.proofs.plain.Records.push.Goals as goal
 
@@ -17,4 +18,4 @@ invariant_of-self c =
     record { long = length-set s.records s.len c.args.function ∙ s.long; few = omega (arith, listed_length s) }
 
 pub returns : goal.returns
-returns c = let s = c.args.self.now in used_push placed_of s.len s.records c.args.function (omega (arith, listed_length s))
+returns c = let s = c.args.self.now in used_push tabled s.len s.records c.args.function (omega (arith, listed_length s))
