@@ -5,7 +5,7 @@ use Rattle.variables.specs.Rules.{is_order}
 use Rattle.problems.specs.Outlines.{Outline}
 use Rattle.search.specs.Searches.{Spot, start, ended, steady, size_at}
 use Rattle.jobs.specs.declared.stage.Stage.{Stage}
-use Rattle.jobs.specs.declared.stage.Stage.TheVariants.{Draft, Running, Ended}
+use Rattle.jobs.specs.declared.stage.Stage.TheVariants.{Closed, Draft, Running, Ended}
 use Rattle.jobs.specs.Stages.{is_closed, is_draft, is_ended}
 use Rattle.jobs.specs.Invariants.{sound, under_way}
 use Rattle.jobs.specs.Standings.{stage_at}
@@ -13,6 +13,13 @@ use Rattle.jobs.specs.Standings.{stage_at}
 other : (x y : Bool) → x ≡ false → (x || y) ≡ true → y ≡ true
 other true y e h = grind arith
 other false y e h = h
+
+-- unless it is closed, the tables lie in the area
+pub lies_inside : (stage : Stage) (o : Outline) (noted : ℕ) (s : Spot) → sound stage o noted s ≡ true → (is_closed stage || leb o.used noted) ≡ true
+lies_inside Closed o noted s h = refl
+lies_inside Draft o noted s h = (and_parts (leb o.used noted) _ (and_parts (leb 1 (length o.sizes)) _ h).1).0
+lies_inside Running o noted s h = (and_parts (leb o.used noted) _ (and_parts (leb 1 (length o.sizes)) _ h).1).0
+lies_inside Ended o noted s h = (and_parts (leb o.used noted) _ (and_parts (leb 1 (length o.sizes)) _ h).1).0
 
 -- a record that is not closed
 module _ (stage : Stage) (o : Outline) (noted : ℕ) (s : Spot) (opened : is_closed stage ≡ false) (is : sound stage o noted s ≡ true) where

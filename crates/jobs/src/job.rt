@@ -1,7 +1,8 @@
 // The job's own record, and its source of floors beside it.
-ghost use Rattle.std.specs.Prelude.{◌≡◌, ◌≤◌, true};
+ghost use Rattle.std.specs.Prelude.{◌≡◌, ◌≤◌, true, ◌||◌, nat_le};
 ghost use Rattle.problems.specs.Outlines.{outline};
 ghost use Rattle.search.specs.Places.{spot_of};
+ghost use Rattle.jobs.specs.Stages.{is_closed};
 ghost use Rattle.jobs.specs.Invariants.{sound};
 
 use crate::stage::Stage;
@@ -17,6 +18,7 @@ pub struct Plain {
     pub(crate) noted: usize,
     pub(crate) place: Place,
     pub(crate) visits: u32,
+    ghost inside: { (is_closed stage || nat_le (outline shape).used noted) ≡ true },
     ghost sound: { sound stage (outline shape) noted (spot_of shape.order place) ≡ true },
     ghost few: { noted ≤ 16384 },
     ghost shown: { visits ≤ 4294967295 },

@@ -3,7 +3,8 @@ use Rattle.std.specs.Option.{option_map}
 use Rattle.variables.specs.declared.plain.Scope.{Scope}
 use Rattle.variables.specs.Assignments.{cells}
 use Rattle.variables.specs.Records.{sizes_of, scope_of}
-use Rattle.problems.specs.Records.{placed_of, nth}
+use Rattle.problems.specs.Records.{nth}
+use Rattle.buckets.specs.Listed.{tabled}
 use Rattle.buckets.specs.Sources.{messages}
 use Rattle.pages.proofs.Cells.{kept_put}
 use Rattle.pages.proofs.messages.kept_line.Goals as goal
@@ -18,5 +19,5 @@ returns c =
     let sum = c.saturating_add.ensures in
     let to = c.min-end.ensures in
     kept_put sizes c.args.area.now c.args.k (vec_items c.args.page.now) (vec_items c.message_line.new.page) (nth (messages c.args.source.now) c.args.k)
-    (placed_of c.in-Some.message) _ _ c.min-start.result c.min-end.result (sym c.message.ensures ∙ ap (option_map placed_of) c.in-Some.is) (c.variables.ensures ∙ ap scope_of scope) c.origin.ensures
+    (tabled c.in-Some.message) _ _ c.min-start.result c.min-end.result (sym c.message.ensures ∙ ap (option_map tabled) c.in-Some.is) (c.variables.ensures ∙ ap scope_of scope) c.origin.ensures
     (omega arith) (omega arith) c.in_ok-message_line.ensures

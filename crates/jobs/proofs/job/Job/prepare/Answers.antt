@@ -1,11 +1,15 @@
-use Rattle.std.proofs.Common.{◌++◌, length, sym, refl, ap, ◌∙◌, arith}
+use Rattle.std.proofs.Common.{◌≡◌, true, ◌++◌, length, sym, refl, ap, ◌∙◌, arith}
 use Rattle.std.proofs.lemmas.Result.{err_from_is_err_and}
 use Rattle.variables.specs.Refusals.{first_of}
 use Rattle.variables.specs.Rules.{order_rows}
 use Rattle.problems.specs.Outlines.{Outline, outline, ordered}
+use Rattle.search.specs.Places.{spot_of}
+use Rattle.jobs.specs.declared.stage.Stage.TheVariants.{Running}
 use Rattle.jobs.specs.declared.stage.Call.TheVariants.{Prepare}
+use Rattle.jobs.specs.Invariants.{sound}
 use Rattle.jobs.specs.Planning.{source_rows}
 use Rattle.jobs.proofs.Rows.{rows_then, rows_first}
+use Rattle.jobs.proofs.Sounds.{lies_inside}
 use Rattle.jobs.proofs.Drafts.{inside, some, noted_is, own_rows}
 use Rattle.jobs.proofs.Forms.{before_tables}
 use Rattle.jobs.proofs.Preparing.{started_sound, suited, roomy, limited_long, prepared_is}
@@ -42,7 +46,6 @@ fill-requires g c =
       suited = suited R s o cells rows;
       behind = omega (arith, c.used.ensures);
       there = omega (arith, roomy R s o cells rows, c.used.ensures, long);
-      small = omega (arith, long, noted, p.few);
     }
 
 pub invariant_of-self : goal.invariant_of-self
@@ -52,12 +55,12 @@ invariant_of-self g c =
     let long = c.in_ok-takes_area.ensures.0 in
     let cells = length c.args.area.now in
     let made = c.in_ok-arrange.ensures in
-    let shape = c.arrange.new.self in record {
-      sound = started_sound p.shape shape c.args.order.now made.1 made.0 (some p Prepare cells refl staged long) p.noted _ (c.start.ensures shape.order)
-          (omega (arith, inside p Prepare cells refl staged long, noted_is p Prepare cells refl staged long));
-      few = p.few;
-      shown = omega arith;
-    }
+    let shape = c.arrange.new.self in
+    let spot = spot_of shape.order c.start.result in
+    let going : sound Running (outline shape) p.noted spot ≡ true =
+      started_sound p.shape shape c.args.order.now made.1 made.0 (some p Prepare cells refl staged long) p.noted spot (c.start.ensures shape.order)
+          (omega (arith, inside p Prepare cells refl staged long, noted_is p Prepare cells refl staged long)) in
+    record { inside = lies_inside Running (outline shape) p.noted spot going; sound = going; few = p.few; shown = omega arith }
 
 pub returns : goal.returns
 returns g c =
