@@ -1,5 +1,5 @@
 -- A page that is written part by part.
-use Rattle.std.proofs.Common.{◌≡◌, List, ◌++◌, sym, ap, ◌∙◌, ap₂, append_assoc}
+use Rattle.std.proofs.Common.{◌≡◌, List, ◌++◌, ap, ◌∙◌, ap₂, append_assoc}
 
 module _ {A : Type 0} (p p₁ p₂ a b a' b' : List A) (e : p₁ ≡ p ++ a) (ea : a ≡ a') (f : p₂ ≡ p₁ ++ b) (eb : b ≡ b') where
   pub two_parts : p₂ ≡ p ++ (a' ++ b')

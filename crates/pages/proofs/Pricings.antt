@@ -1,12 +1,12 @@
 -- From what the records say to what the text describes.
-use Rattle.std.proofs.Common.{◌≡◌, ℕ, ◌+◌, Bool, true, false, cond, ◌&&◌, leb, List, [], ◌∷◌, ◌++◌, map, length, Some, None, Ok, Err, Option, Result, unwrap_or, sym, refl, ap, ◌∙◌, ap₂, zero-add, arith, Bor}
+use Rattle.std.proofs.Common.{◌≡◌, ℕ, Bool, true, false, cond, ◌&&◌, leb, List, ◌++◌, length, Some, None, Ok, Err, Option, Result, unwrap_or, ap, ◌∙◌, ap₂, zero-add, arith, Bor}
 use mathlib.Core.Path.{fun_ext}
 use Rattle.std.specs.Option.{option_map}
 use Rattle.costs.specs.Kinds.{sum}
 use Rattle.problems.specs.Outlines.{Outline, opened, problem}
 use Rattle.variables.specs.Assignments.{Assignment, of, Full}
 use Rattle.problems.specs.Problems.{Function, Problem, cost}
-use Rattle.problems.specs.Records.{all_proper, function_in}
+use Rattle.problems.specs.Records.{all_proper}
 use Rattle.words.specs.declared.fault.Fault.{Fault}
 use Rattle.words.specs.Words.{words, name_of}
 use Rattle.wcsp.specs.Layouts.{Document, document}

@@ -1,5 +1,5 @@
 -- The lines of answers, byte by byte.
-use Rattle.std.specs.Prelude.{ℕ, Bool, cond, List, [], ◌∷◌, ◌++◌, codes, decimal}
+use Rattle.std.specs.Prelude.{ℕ, List, ◌++◌, codes, decimal}
 
 -- NAME: STATE
 abbrev pub done_line : List ℕ → List ℕ → List ℕ

@@ -2,7 +2,6 @@ use Rattle.std.proofs.Common.{◌≡◌, ◌+◌, Bool, true, false, ◌&&◌, l
 use Rattle.std.proofs.lemmas.List.{at_drop_all}
 use Rattle.std.proofs.lemmas.Bool.{le-leb, lt-leb}
 use Rattle.variables.specs.Records.{scope_of}
-
 use Rattle.buckets.specs.Listed.{listed, tabled}
 use Rattle.buckets.specs.Processed.{scopes_of}
 use Rattle.buckets.specs.Sources.{short}

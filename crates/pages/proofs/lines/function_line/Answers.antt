@@ -1,4 +1,4 @@
-use Rattle.std.proofs.Common.{vec_items, string_bytes, refl, ◌∙◌}
+use Rattle.std.proofs.Common.{vec_items, refl, ◌∙◌}
 use Rattle.pages.specs.Lines.{spaced}
 use Rattle.pages.proofs.Parts.{three_parts}
 use Rattle.pages.proofs.lines.function_line.Goals as goal

@@ -1,4 +1,4 @@
-use Rattle.std.proofs.Common.{◌≡◌, vec_items, codes, refl, ap, ◌∙◌}
+use Rattle.std.proofs.Common.{vec_items, codes, refl, ◌∙◌}
 use Rattle.pages.proofs.Parts.{three_parts}
 use Rattle.pages.proofs.lines.job_line.Goals as goal
 

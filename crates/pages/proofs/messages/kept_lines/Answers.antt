@@ -1,4 +1,4 @@
-use Rattle.std.proofs.Common.{◌≡◌, length, vec_items, refl, arith}
+use Rattle.std.proofs.Common.{vec_items, refl, arith}
 use Rattle.variables.specs.Records.{sizes_of}
 use Rattle.buckets.specs.Sources.{messages}
 use Rattle.pages.specs.Messages.{kept_line, kept_lines}

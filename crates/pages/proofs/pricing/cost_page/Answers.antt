@@ -1,4 +1,4 @@
-use Rattle.std.proofs.Common.{◌≡◌, ℕ, ◌∙◌, subst}
+use Rattle.std.proofs.Common.{ℕ, ◌∙◌, subst}
 use Rattle.wcsp.specs.Loads.{loading}
 use Rattle.pages.specs.Pages.{Priced}
 use Rattle.pages.proofs.pricing.cost_page.Goals as goal

@@ -1,9 +1,6 @@
 use Rattle.std.proofs.Common.{◌≡◌, [], ◌++◌, length, vec_items, refl, ap, ◌∙◌}
 use Rattle.problems.specs.Outlines.{outline}
-use Rattle.variables.specs.Assignments.{of}
-use Rattle.variables.specs.Records.{values_of}
 use Rattle.pages.specs.Lines.{job_line, verdict_line}
-use Rattle.pages.specs.Records.{record_lines}
 use Rattle.pages.proofs.Parts.{three_parts}
 use Rattle.pages.proofs.pricing.page_of.Goals as goal
 

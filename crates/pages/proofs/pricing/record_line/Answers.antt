@@ -1,5 +1,4 @@
 use Rattle.std.proofs.Common.{◌≡◌, ℕ, List, ◌++◌, ap, ap₂, ◌∙◌}
-use Rattle.variables.specs.declared.plain.Sizes.{Sizes}
 use Rattle.variables.specs.Records.{sizes_of, scope_of, values_of}
 use Rattle.variables.specs.Assignments.{of}
 use Rattle.costs.specs.Kinds.{sum}
@@ -13,5 +12,5 @@ returns c =
     let scope : c.variables.result.now ≡ scope_of f.scope = c.variables.ensures ∙ ap scope_of c.scope.ensures in
     let sizes : sizes_of c.sizes.result ≡ sizes_of c.args.shape.now.sizes = ap sizes_of c.sizes.ensures in
     let cost : c.cost-cost.result ≡ held sum (sizes_of c.args.shape.now.sizes) c.args.area.now (of (values_of c.args.setting.now)) (placed_of f) =
-      c.cost-cost.ensures ∙ ap (λ (l : List ℕ). held sum l c.args.area.now (of (values_of c.args.setting.now)) (placed_of f)) sizes in
+    c.cost-cost.ensures ∙ ap (λ (l : List ℕ). held sum l c.args.area.now (of (values_of c.args.setting.now)) (placed_of f)) sizes in
     rw (← c.in-Some.ensures) (c.in_ok-function_line.ensures ∙ ap₂ (λ (s : List ℕ) (x : ℕ). c.args.page.now.items ++ function_line c.args.k s x) scope cost)

@@ -1,4 +1,4 @@
-use Rattle.std.proofs.Common.{◌≡◌, length, vec_items, refl, arith}
+use Rattle.std.proofs.Common.{vec_items, refl, arith}
 use Rattle.problems.specs.Outlines.{outline}
 use Rattle.variables.specs.Assignments.{of}
 use Rattle.variables.specs.Records.{values_of}

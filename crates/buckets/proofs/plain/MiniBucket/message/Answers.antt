@@ -1,7 +1,6 @@
 use Rattle.std.proofs.Common.{◌≡◌, ℕ, ◌+◌, ◌<◌, length, sym, ◌∙◌, arith}
 use mir.Facts.{Fits-below}
 use Rattle.std.proofs.lemmas.List.{length-drop}
-
 use Rattle.problems.proofs.Placements.{used_nth, nth_past}
 use Rattle.buckets.specs.Listed.{tabled}
 use Rattle.buckets.specs.declared.plain.MiniBucket.{MiniBucket}

@@ -1,6 +1,5 @@
 use Rattle.std.proofs.Common.{Bool, false, ◌||◌, get_or, ap, arith}
 use Rattle.variables.specs.Records.{scope_of}
-
 use Rattle.buckets.specs.Listed.{listed, tabled}
 use Rattle.buckets.specs.Joining.{names}
 use Rattle.buckets.proofs.Listing.{listed_length, listed_drop}

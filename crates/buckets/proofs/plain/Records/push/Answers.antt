@@ -1,6 +1,5 @@
 use Rattle.std.proofs.Common.{◌∙◌, arith}
 use Rattle.std.proofs.lemmas.List.{length-set}
-
 use Rattle.problems.proofs.Placements.{used_push}
 use Rattle.buckets.specs.Listed.{tabled}
 use Rattle.buckets.proofs.Listing.{listed_length}

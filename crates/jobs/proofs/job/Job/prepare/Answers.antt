@@ -58,8 +58,8 @@ invariant_of-self g c =
     let shape = c.arrange.new.self in
     let spot = spot_of shape.order c.start.result in
     let going : sound Running (outline shape) p.noted spot ≡ true =
-      started_sound p.shape shape c.args.order.now made.1 made.0 (some p Prepare cells refl staged long) p.noted spot (c.start.ensures shape.order)
-          (omega (arith, inside p Prepare cells refl staged long, noted_is p Prepare cells refl staged long)) in
+    started_sound p.shape shape c.args.order.now made.1 made.0 (some p Prepare cells refl staged long) p.noted spot (c.start.ensures shape.order)
+    (omega (arith, inside p Prepare cells refl staged long, noted_is p Prepare cells refl staged long)) in
     record { inside = lies_inside Running (outline shape) p.noted spot going; sound = going; few = p.few; shown = omega arith }
 
 pub returns : goal.returns

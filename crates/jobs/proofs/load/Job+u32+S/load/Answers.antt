@@ -17,6 +17,6 @@ invariant_of-self g c =
     let few = loaded_few c.args.text.now (length c.args.area.now) d read.1 in
     let spot = spot_of shape.order c.start.result in
     let loaded : sound Draft (outline shape) (length c.load.new.area) spot ≡ true =
-      draft_sound (outline shape) (length c.load.new.area) spot
-          (omega (arith, some, ap (λ (o : Outline). length o.sizes) loads.shape)) (omega (arith, loads.inside, loads.long)) in
+    draft_sound (outline shape) (length c.load.new.area) spot
+    (omega (arith, some, ap (λ (o : Outline). length o.sizes) loads.shape)) (omega (arith, loads.inside, loads.long)) in
     record { inside = lies_inside Draft (outline shape) (length c.load.new.area) spot loaded; sound = loaded; few = omega (arith, few, loads.long); shown = omega arith }
