@@ -1,6 +1,6 @@
 -- At most 320 messages: each lowers the total length of the scopes still to be processed by at least one.
 use Rattle.std.proofs.Common.{◌≡◌, ℕ, zero, suc, ◌+◌, ◌-◌, ◌*◌, ◌<◌, ◌≤◌, Bool, true, false, not, ◌||◌, eqb, leb, List, [], ◌∷◌, ◌++◌, map, length, get_or, sym, refl, ap, ◌∙◌, inl, inr, arith}
-use Rattle.std.specs.List.{AllByRecursion as All}
+use Rattle.std.specs.List.{AllByRecursion}
 use Rattle.std.proofs.lemmas.List.{length-map, length-append, append_assoc}
 use Rattle.std.proofs.lemmas.Bool.{cond_both, cases_Bool, or_left, or_right, eqb-true, eq-eqb}
 use Rattle.std.proofs.lemmas.Bool.Decides.{nat_tests}
@@ -99,13 +99,13 @@ module _ {C : Type 0} where
   mentions_last (g ∷ b) f v h = or_right (has g.scope v) _ (mentions_last b f v h)
 
   module _ (order : List ℕ) (w v : ℕ) where
-    joined_all : (f : Function C) (bs : List (List (Function C))) → has f.scope v ≡ true → All (λ b. mentions b v ≡ true) bs → All (λ b. mentions b v ≡ true) (joined order w f bs)
+    joined_all : (f : Function C) (bs : List (List (Function C))) → has f.scope v ≡ true → AllByRecursion (λ b. mentions b v ≡ true) bs → AllByRecursion (λ b. mentions b v ≡ true) (joined order w f bs)
     joined_all f [] h hs = (or_left (has f.scope v) false h, tt)
     joined_all f (b ∷ bs) h hs =
-        cond_both (leb (length (variables order (b ++ (f ∷ [])))) w) ((b ++ (f ∷ [])) ∷ bs) (b ∷ joined order w f bs) (All (λ b. mentions b v ≡ true))
+        cond_both (leb (length (variables order (b ++ (f ∷ [])))) w) ((b ++ (f ∷ [])) ∷ bs) (b ∷ joined order w f bs) (AllByRecursion (λ b. mentions b v ≡ true))
         (λ _. (mentions_last b f v h, hs.1)) (λ _. (hs.0, joined_all f bs h hs.1))
 
-    split_all : (bs : List (List (Function C))) (fs : List (Function C)) → All (λ f. has f.scope v ≡ true) fs → All (λ b. mentions b v ≡ true) bs → All (λ b. mentions b v ≡ true) (split_from order w bs fs)
+    split_all : (bs : List (List (Function C))) (fs : List (Function C)) → AllByRecursion (λ f. has f.scope v ≡ true) fs → AllByRecursion (λ b. mentions b v ≡ true) bs → AllByRecursion (λ b. mentions b v ≡ true) (split_from order w bs fs)
     split_all bs [] h hs = hs
     split_all bs (f ∷ fs) h hs = split_all (joined order w f bs) fs h.1 (joined_all f bs h.0 hs)
 
@@ -120,7 +120,7 @@ module _ {C : Type 0} where
     split_weight bs [] = omega arith
     split_weight bs (f ∷ fs) = omega (arith, split_weight (joined order w f bs) fs, joined_weight f bs)
 
-    messages_less : Distinct order → has order v ≡ true → (bs : List (List (Function C))) → All (λ b. mentions b v ≡ true) bs → lengths (map (message_scope order v) bs) + length bs ≤ weight (flat bs)
+    messages_less : Distinct order → has order v ≡ true → (bs : List (List (Function C))) → AllByRecursion (λ b. mentions b v ≡ true) bs → lengths (map (message_scope order v) bs) + length bs ≤ weight (flat bs)
     messages_less d hv [] hs = omega arith
     messages_less d hv (b ∷ bs) hs =
         let there : has (variables order b) v ≡ true = has_kept (mentions b) order v hs.0 hv in
@@ -141,17 +141,17 @@ module _ (order : List ℕ) (distinct : Distinct order) (w : ℕ) where
       let lying : List (Function ℕ) = kept (lies_in order (suc p)) (map bare ss) in
       let minis : List (List (Function ℕ)) = split_from order w [] lying in
       let is : lying ≡ map bare (kept (λ s. eqb (bucket_of order s) (suc p)) ss) = kept_map bare (lies_in order (suc p)) ss in
-      let each : All (λ (f : Function ℕ). has f.scope v ≡ true) lying = all_have p (map bare ss) in
+      let each : AllByRecursion (λ (f : Function ℕ). has f.scope v ≡ true) lying = all_have p (map bare ss) in
       let less : lengths (map (message_scope order v) minis) + length minis ≤ weight (flat minis) =
       messages_less order w v distinct (getD_has order p l) minis (split_all order w v [] lying each tt) in
       let whole : weight (flat minis) ≡ weight lying = split_weight order w v [] lying ∙ omega arith in
       let scopes : weight lying ≡ lengths (kept (λ s. eqb (bucket_of order s) (suc p)) ss) = ap weight is ∙ weight_bare (kept (λ s. eqb (bucket_of order s) (suc p)) ss) in
       rw back (omega (arith, less, length-map minis (message_scope order v)))
     where
-      all_have : (q : ℕ) (fs : List (Function ℕ)) → All (λ (f : Function ℕ). has f.scope (get_or order q 0) ≡ true) (kept (lies_in order (suc q)) fs)
+      all_have : (q : ℕ) (fs : List (Function ℕ)) → AllByRecursion (λ (f : Function ℕ). has f.scope (get_or order q 0) ≡ true) (kept (lies_in order (suc q)) fs)
       all_have q [] = tt
       all_have q (f ∷ fs) =
-          cond_both (lies_in order (suc q) f) (f ∷ kept (lies_in order (suc q)) fs) (kept (lies_in order (suc q)) fs) (All (λ (g : Function ℕ). has g.scope (get_or order q 0) ≡ true))
+          cond_both (lies_in order (suc q) f) (f ∷ kept (lies_in order (suc q)) fs) (kept (lies_in order (suc q)) fs) (AllByRecursion (λ (g : Function ℕ). has g.scope (get_or order q 0) ≡ true))
           (λ e. (lies_has order q f.scope (eqb-true _ _ e), all_have q fs)) (λ _. all_have q fs)
 
   made_less : (ss : List (List ℕ)) (k : ℕ) → k ≤ length order
@@ -180,6 +180,6 @@ module _ (order : List ℕ) (distinct : Distinct order) (w : ℕ) where
   pub made_few : (ss : List (List ℕ)) (k : ℕ) → k ≤ length order → length (scopes_made order w ss k) ≤ lengths ss
   made_few ss k l = omega (arith, made_less ss k l)
 
-pub lengths_few : (ss : List (List ℕ)) → All (λ s. length s ≤ 5) ss → lengths ss ≤ 5 * length ss
+pub lengths_few : (ss : List (List ℕ)) → AllByRecursion (λ s. length s ≤ 5) ss → lengths ss ≤ 5 * length ss
 lengths_few [] h = omega arith
 lengths_few (s ∷ ss) h = omega (arith, lengths_few ss h.1, h.0)

@@ -1,6 +1,6 @@
 -- The messages that are still to come from the functions that wait.
 use Rattle.std.proofs.Common.{◌≡◌, ℕ, ◌+◌, ◌-◌, ◌*◌, ◌<◌, ◌≤◌, true, not, eqb, List, [], ◌∷◌, ◌++◌, map, length, get_or, sym, refl, ap, ◌∙◌, ap₂, add-one, arith}
-use Rattle.std.specs.List.{AllByRecursion as All}
+use Rattle.std.specs.List.{AllByRecursion}
 use Rattle.std.proofs.lemmas.List.{length-map, length-append, append_assoc, append-nil, length_push}
 use Rattle.std.proofs.ByRecursion.{All-weaker}
 use Rattle.std.proofs.lemmas.Bool.{and_parts, eqb-true}
@@ -50,7 +50,7 @@ module _ (order : List ℕ) (w : ℕ) where
 
 -- what lies in a bucket
 abbrev pub Lies : List ℕ → ℕ → List Placed → Type 0
-Lies order p ws = All (λ (f : Placed). bucket_of order f.scope ≡ p + 1) ws
+Lies order p ws = AllByRecursion (λ (f : Placed). bucket_of order f.scope ≡ p + 1) ws
 
 pub lying : (order : List ℕ) (p : ℕ) (rs : List Placed) → Lies order p (kept (lies_at order (p + 1)) rs)
 lying order p rs = All-weaker _ _ (λ f e. eqb-true _ _ e) (kept (lies_at order (p + 1)) rs) (all_passing (lies_at order (p + 1)) rs)
@@ -59,7 +59,7 @@ module _ (sizes order : List ℕ) (w p : ℕ) (fs : List Placed) (ready : Ready 
   order_parts : (known (length sizes) order ≡ true) × (distinct order ≡ true)
   order_parts = and_parts (known (length sizes) order) (distinct order) (and_parts (eqb (length order) (length sizes)) _ ready.ordered).1
 
-  pub proper_next : (ws : List Placed) → 0 < length ws → All (λ (f : Placed). length f.scope ≤ 5) ws → Lies order p ws → proper (length sizes) (next_scope order w (get_or order p 0) ws) ≡ true
+  pub proper_next : (ws : List Placed) → 0 < length ws → AllByRecursion (λ (f : Placed). length f.scope ≤ 5) ws → Lies order p ws → proper (length sizes) (next_scope order w (get_or order p 0) ws) ≡ true
   proper_next [] h few lies = absurd (omega arith)
   proper_next (g ∷ gs) h few lies =
       proper_message (length sizes) order order_parts.1 order_parts.0 w ready.narrow p ready.number g gs few

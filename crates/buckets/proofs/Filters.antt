@@ -1,6 +1,6 @@
 -- Filters of lists, and the places of variables.
 use Rattle.std.proofs.Common.{◌≡◌, ℕ, suc, ◌+◌, ◌-◌, ◌≤◌, Bool, true, false, cond, ◌&&◌, eqb, List, [], ◌∷◌, ◌++◌, map, length, get_or, sym, refl, ap, ◌∙◌, ap₂, inl, inr, arith}
-use Rattle.std.specs.List.{AllByRecursion as All}
+use Rattle.std.specs.List.{AllByRecursion}
 use Rattle.std.proofs.lemmas.Bool.{cond_both, cases_Bool, cases_eq, or_left, or_right, eqb-true, eq-eqb}
 use Rattle.std.proofs.lemmas.Bool.Decides.{nat_tests}
 use Rattle.variables.specs.Lists.{has}
@@ -25,7 +25,7 @@ kept_kept p q r h (x ∷ xs) =
       | inr e ↦ rw (t, e) ih
     ]
 
-pub kept_all : {A : Type 0} (p : A → Bool) (xs : List A) → All (λ x. p x ≡ true) xs → kept p xs ≡ xs
+pub kept_all : {A : Type 0} (p : A → Bool) (xs : List A) → AllByRecursion (λ x. p x ≡ true) xs → kept p xs ≡ xs
 kept_all p [] h = refl
 kept_all p (x ∷ xs) h = rw h.0 (ap (λ (l : List _). x ∷ l) (kept_all p xs h.1))
 
@@ -86,10 +86,10 @@ kept_agree p q [] h = refl
 kept_agree p q (x ∷ xs) h =
     ap₂ (λ (b : Bool) (l : List ℕ). cond b (x ∷ l) l) (h x (has_first x xs)) (kept_agree p q xs (λ v k. h v (or_right (eqb x v) (has xs v) k)))
 
-pub all_kept : {A : Type 0} (P : A → Type 0) (p : A → Bool) (xs : List A) → All P xs → All P (kept p xs)
+pub all_kept : {A : Type 0} (P : A → Type 0) (p : A → Bool) (xs : List A) → AllByRecursion P xs → AllByRecursion P (kept p xs)
 all_kept P p [] h = tt
-all_kept P p (x ∷ xs) h = cond_both (p x) (x ∷ kept p xs) (kept p xs) (All P) (λ _. (h.0, all_kept P p xs h.1)) (λ _. all_kept P p xs h.1)
+all_kept P p (x ∷ xs) h = cond_both (p x) (x ∷ kept p xs) (kept p xs) (AllByRecursion P) (λ _. (h.0, all_kept P p xs h.1)) (λ _. all_kept P p xs h.1)
 
-pub all_passing : {A : Type 0} (p : A → Bool) (xs : List A) → All (λ x. p x ≡ true) (kept p xs)
+pub all_passing : {A : Type 0} (p : A → Bool) (xs : List A) → AllByRecursion (λ x. p x ≡ true) (kept p xs)
 all_passing p [] = tt
-all_passing p (x ∷ xs) = cond_both (p x) (x ∷ kept p xs) (kept p xs) (All (λ y. p y ≡ true)) (λ e. (e, all_passing p xs)) (λ _. all_passing p xs)
+all_passing p (x ∷ xs) = cond_both (p x) (x ∷ kept p xs) (kept p xs) (AllByRecursion (λ y. p y ≡ true)) (λ e. (e, all_passing p xs)) (λ _. all_passing p xs)

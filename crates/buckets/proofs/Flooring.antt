@@ -1,6 +1,6 @@
 -- A loop over the records that a prefix reaches comes to the mini-bucket floor.
 use Rattle.std.proofs.Common.{◌≡◌, ℕ, zero, suc, ◌+◌, ◌-◌, ◌<◌, ◌≤◌, true, leb, List, [], ◌∷◌, ◌++◌, map, length, get_or, take, Option, sym, ap, ◌∙◌, subst, ap₂, arith}
-use Rattle.std.specs.List.{AllByRecursion as All}
+use Rattle.std.specs.List.{AllByRecursion}
 use Rattle.std.proofs.lemmas.List.{length-map, length-append, map-append, take-map, take-take, length-take-le}
 use Rattle.costs.specs.Structures.{Structure, Lawful, total}
 use Rattle.costs.proofs.Totals.{folded, folded_total}
@@ -40,7 +40,7 @@ made_within {C} {K} L sizes order w fs (suc k) v m =
     within_append (λ u. has order u ≡ true) (bucket_made K sizes order w fs k) (bucket_messages K sizes order w p all) (made_within L sizes order w fs k)
     (λ u h. (messages_within L sizes order (λ x. Unit {0}) (get_or order (p - 1) 0) minis (anything minis) u h).0) v m
   where
-    anything : (bs : List (List (Function C))) → All (Within (λ u. Unit {0})) bs
+    anything : (bs : List (List (Function C))) → AllByRecursion (Within (λ u. Unit {0})) bs
     anything [] = tt
     anything (b ∷ bs) = (λ u h. tt, anything bs)
 

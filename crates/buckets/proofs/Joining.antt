@@ -1,7 +1,7 @@
 -- First fit is the same as taking one mini-bucket after the other from what waits.
 use Rattle.std.proofs.Common.{◌≡◌, ℕ, suc, ◌+◌, ◌≤◌, Bool, true, false, cond, ◌||◌, leb, List, [], ◌∷◌, ◌++◌, map, length, drop, sym, refl, ap, ◌∙◌, ap₂, inl, inr, arith}
 use mathlib.Core.Path.{fun_ext}
-use Rattle.std.specs.List.{AllByRecursion as All}
+use Rattle.std.specs.List.{AllByRecursion}
 use Rattle.std.proofs.lemmas.List.{map_push, append_assoc, append-nil, at_drop_all}
 use Rattle.std.proofs.ByRecursion.{All-push}
 use Rattle.std.proofs.lemmas.Bool.{cond_both, cases_Bool, leb-true}
@@ -51,16 +51,16 @@ module _ {C : Type 0} (g : Placed → Function C) (same : (f : Placed) → (g f)
     first_fit f fs = first_takes f [] [] fs
 
 module _ (order : List ℕ) (w : ℕ) where
-  pub all_taken : (P : Placed → Type 0) (ms fs : List Placed) → All P ms → All P fs → All P (taken order w ms fs)
+  pub all_taken : (P : Placed → Type 0) (ms fs : List Placed) → AllByRecursion P ms → AllByRecursion P fs → AllByRecursion P (taken order w ms fs)
   all_taken P ms [] h k = h
   all_taken P ms (f ∷ fs) h k =
-      cond_both (joins order w ms f.scope) (taken order w (ms ++ f ∷ []) fs) (taken order w ms fs) (All P)
+      cond_both (joins order w ms f.scope) (taken order w (ms ++ f ∷ []) fs) (taken order w ms fs) (AllByRecursion P)
       (λ _. all_taken P (ms ++ f ∷ []) fs (All-push P ms f h k.0) k.1) (λ _. all_taken P ms fs h k.1)
 
-  pub all_passed : (P : Placed → Type 0) (ms fs : List Placed) → All P fs → All P (passed order w ms fs)
+  pub all_passed : (P : Placed → Type 0) (ms fs : List Placed) → AllByRecursion P fs → AllByRecursion P (passed order w ms fs)
   all_passed P ms [] k = tt
   all_passed P ms (f ∷ fs) k =
-      cond_both (joins order w ms f.scope) (passed order w (ms ++ f ∷ []) fs) (f ∷ passed order w ms fs) (All P)
+      cond_both (joins order w ms f.scope) (passed order w (ms ++ f ∷ []) fs) (f ∷ passed order w ms fs) (AllByRecursion P)
       (λ _. all_passed P (ms ++ f ∷ []) fs k.1) (λ _. (k.0, all_passed P ms fs k.1))
 
   pub passed_length : (ms fs : List Placed) → length (passed order w ms fs) ≤ length fs

@@ -1,6 +1,6 @@
 -- What is left to combine once the last k buckets have been processed: what lies in earlier buckets, entered or made.
 use Rattle.std.proofs.Common.{◌≡◌, ℕ, zero, suc, ◌+◌, ◌-◌, ◌<◌, ◌≤◌, Bool, true, false, not, ◌||◌, eqb, leb, List, [], ◌∷◌, ◌++◌, map, length, get_or, take, drop, sym, refl, ap, ◌∙◌, ap₂, inl, inr, arith}
-use Rattle.std.specs.List.{AllByRecursion as All}
+use Rattle.std.specs.List.{AllByRecursion}
 use Rattle.std.proofs.lemmas.List.{append-nil, append_assoc, length-append, take_all, take-append-le, drop_all, drop_more}
 use Rattle.std.proofs.lemmas.Bool.{cases_Bool, cases_eq, cases_lt, or_right, le-leb, eqb-true, eqb-false}
 use Rattle.std.proofs.lemmas.Bool.Decides.{nat_tests}
@@ -43,7 +43,7 @@ early order q u h l other =
     ]
 
 module _ {C : Type 0} where
-  all_early : (order : List ℕ) (q : ℕ) (fs : List (Function C)) → Within (λ u. place_from 1 order u ≤ q) fs → All (λ f. leb (bucket_of order f.scope) q ≡ true) fs
+  all_early : (order : List ℕ) (q : ℕ) (fs : List (Function C)) → Within (λ u. place_from 1 order u ≤ q) fs → AllByRecursion (λ f. leb (bucket_of order f.scope) q ≡ true) fs
   all_early order q [] h = tt
   all_early order q (f ∷ fs) h = (le-leb _ q (bucket_below order q f.scope (within_head _ f fs h)), all_early order q fs (within_tail _ f fs h))
 
@@ -61,7 +61,7 @@ module _ {C : Type 0} where
 
 module _ {C : Type 0} {K : Structure C} (L : Lawful K) (sizes order : List ℕ) (w : ℕ) where
   -- a bucket's messages lie in earlier buckets
-  messages_early : (q : ℕ) (fs : List (Function C)) → All (λ f. leb (bucket_of order f.scope) q ≡ true) (bucket_messages K sizes order w (suc q) fs)
+  messages_early : (q : ℕ) (fs : List (Function C)) → AllByRecursion (λ f. leb (bucket_of order f.scope) q ≡ true) (bucket_messages K sizes order w (suc q) fs)
   messages_early q fs =
       let back : suc q - 1 ≡ q = omega arith in
       let lying = kept (lies_in order (suc q)) fs in
@@ -76,10 +76,10 @@ module _ {C : Type 0} {K : Structure C} (L : Lawful K) (sizes order : List ℕ) 
     pub left_kept : (k : ℕ) → k ≤ length order
         → bucket_left K sizes order w fs k ≡ kept (λ f. leb (bucket_of order f.scope) (length order - k)) (fs ++ bucket_made K sizes order w fs k)
     left_kept zero l =
-        let all : All (λ (f : Function C). leb (bucket_of order f.scope) (length order - 0) ≡ true) fs = everywhere fs in
+        let all : AllByRecursion (λ (f : Function C). leb (bucket_of order f.scope) (length order - 0) ≡ true) fs = everywhere fs in
         sym (ap (kept (λ f. leb (bucket_of order f.scope) (length order - 0))) (append-nil fs) ∙ kept_all _ fs all)
       where
-        everywhere : (gs : List (Function C)) → All (λ (f : Function C). leb (bucket_of order f.scope) (length order - 0) ≡ true) gs
+        everywhere : (gs : List (Function C)) → AllByRecursion (λ (f : Function C). leb (bucket_of order f.scope) (length order - 0) ≡ true) gs
         everywhere [] = tt
         everywhere (g ∷ gs) = (le-leb _ _ (omega (arith, bucket_most order g.scope)), everywhere gs)
     left_kept (suc k) l =

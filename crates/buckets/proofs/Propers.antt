@@ -1,7 +1,7 @@
 -- The scope of a message is a proper one: known variables, none twice, at most five.
 use Rattle.std.proofs.Common.{◌≡◌, ℕ, suc, ◌<◌, ◌≤◌, Bool, true, false, not, ◌&&◌, eqb, leb, List, [], ◌∷◌, ◌++◌, map, length, get_or, take, refl, ap, inl, inr, arith}
 use mathlib.Core.Path.{fun_ext}
-use Rattle.std.specs.List.{AllByRecursion as All}
+use Rattle.std.specs.List.{AllByRecursion}
 use Rattle.std.proofs.lemmas.List.{length-take}
 use Rattle.std.proofs.lemmas.Bool.{cond_both, cases_Bool, and_parts, and_from, not-true, le-leb, or_left}
 use Rattle.variables.specs.Lists.{has, known, distinct}
@@ -39,23 +39,23 @@ distinct_kept p (x ∷ xs) h =
     lacks f = elim (cases_Bool (has (kept p xs) x)) [ inl e ↦ let k = (kept_has p xs x e).1 in grind arith | inr e ↦ ap not e ]
 
 -- records have at most five variables
-pub listed_few : (r : Records) → All (λ (f : Placed). length f.scope ≤ 5) (listed r)
+pub listed_few : (r : Records) → AllByRecursion (λ (f : Placed). length f.scope ≤ 5) (listed r)
 listed_few r = each (take r.len r.records)
   where
-    each : (rs : List TableRecord) → All (λ (f : Placed). length f.scope ≤ 5) (map tabled rs)
+    each : (rs : List TableRecord) → AllByRecursion (λ (f : Placed). length f.scope ≤ 5) (map tabled rs)
     each [] = tt
     each (f ∷ rs) = (omega (arith, length-take f.scope.len f.scope.variables, f.scope.few), each rs)
 
-all_names : (v : ℕ) (f : Placed) (fs : List Placed) → All (λ (g : Placed). has g.scope v ≡ true) (f ∷ fs) → names (f ∷ fs) v ≡ true
+all_names : (v : ℕ) (f : Placed) (fs : List Placed) → AllByRecursion (λ (g : Placed). has g.scope v ≡ true) (f ∷ fs) → names (f ∷ fs) v ≡ true
 all_names v f fs h = or_left (has f.scope v) (names fs v) h.0
 
 module _ (n : ℕ) (order : List ℕ) (apart : distinct order ≡ true) (know : known n order ≡ true) (w : ℕ) (narrow : w ≤ 6) (p : ℕ) (l : p < length order) where
-  lies_all : (fs : List Placed) → All (λ (f : Placed). bucket_of order f.scope ≡ suc p) fs → All (λ (f : Placed). has f.scope (get_or order p 0) ≡ true) fs
+  lies_all : (fs : List Placed) → AllByRecursion (λ (f : Placed). bucket_of order f.scope ≡ suc p) fs → AllByRecursion (λ (f : Placed). has f.scope (get_or order p 0) ≡ true) fs
   lies_all [] h = tt
   lies_all (f ∷ fs) h = (lies_has order p f.scope h.0, lies_all fs h.1)
 
   -- what a mini-bucket has, with the bucket's variable
-  some_names : (ms : List Placed) → 0 < length ms → All (λ (f : Placed). has f.scope (get_or order p 0) ≡ true) ms → names ms (get_or order p 0) ≡ true
+  some_names : (ms : List Placed) → 0 < length ms → AllByRecursion (λ (f : Placed). has f.scope (get_or order p 0) ≡ true) ms → names ms (get_or order p 0) ≡ true
   some_names [] s h = absurd (omega arith)
   some_names (m ∷ ms) s h = all_names (get_or order p 0) m ms h
 
@@ -67,7 +67,7 @@ module _ (n : ℕ) (order : List ℕ) (apart : distinct order ≡ true) (know : 
       longer [] x = omega arith
       longer (y ∷ xs) x = omega arith
 
-  module _ (f : Placed) (fs : List Placed) (few : All (λ (g : Placed). length g.scope ≤ 5) (f ∷ fs)) (lies : All (λ (g : Placed). bucket_of order g.scope ≡ suc p) (f ∷ fs)) where
+  module _ (f : Placed) (fs : List Placed) (few : AllByRecursion (λ (g : Placed). length g.scope ≤ 5) (f ∷ fs)) (lies : AllByRecursion (λ (g : Placed). bucket_of order g.scope ≡ suc p) (f ∷ fs)) where
     abbrev members : List Placed
     members = taken order w [] (f ∷ fs)
 

@@ -1,6 +1,6 @@
--- All buckets, from the last down.
+-- AllByRecursion buckets, from the last down.
 use Rattle.std.proofs.Common.{◌≡◌, ℕ, suc, ◌+◌, ◌-◌, ◌*◌, ◌<◌, ◌≤◌, true, eqb, ltb, leb, List, [], ◌∷◌, ◌++◌, map, length, get_or, take, drop, set, sym, refl, ap, ◌∙◌, subst, ap₂, inl, inr, suc-mul, arith}
-use Rattle.std.specs.List.{AllByRecursion as All}
+use Rattle.std.specs.List.{AllByRecursion}
 use Rattle.std.proofs.lemmas.List.{length-map, length-append, append_assoc, append-nil, map-append, map-id, take-take, drop-drop, get_or-set_same, get_or-set_other}
 use Rattle.std.proofs.ByRecursion.{All-append, All-weaker}
 use Rattle.std.proofs.lemmas.Bool.{and_parts, eqb-true, cases_eq, cases_Bool, or_cases, leb-true, ltb-true}
@@ -55,13 +55,13 @@ module _ (sizes order : List ℕ) (w : ℕ) (fs : List Placed) (able : Able size
   apart : 0 < n → Distinct order
   apart some = is_distinct order (and_parts (known (length sizes) order) (distinct order) (and_parts (eqb (length order) (length sizes)) _ (order_is some)).1).1
 
-  few : (gs : List Placed) → all_proper (length sizes) gs ≡ true → All (λ s. length s ≤ 5) (scopes_of gs)
+  few : (gs : List Placed) → all_proper (length sizes) gs ≡ true → AllByRecursion (λ s. length s ≤ 5) (scopes_of gs)
   few [] h = tt
   few (g ∷ gs) h =
       let both = and_parts (proper (length sizes) g.scope) _ h in
       (leb-true (length g.scope) 5 (and_parts (leb (length g.scope) 5) _ both.0).0, few gs both.1)
 
-  covered : 0 < n → (gs : List Placed) → all_proper (length sizes) gs ≡ true → All (λ s. (u : ℕ) → has s u ≡ true → has order u ≡ true) (scopes_of gs)
+  covered : 0 < n → (gs : List Placed) → all_proper (length sizes) gs ≡ true → AllByRecursion (λ s. (u : ℕ) → has s u ≡ true → has order u ≡ true) (scopes_of gs)
   covered some [] h = tt
   covered some (g ∷ gs) h =
       let both = and_parts (proper (length sizes) g.scope) _ h in

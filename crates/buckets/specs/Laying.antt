@@ -1,6 +1,6 @@
 -- The records of all messages: their scopes, and where their tables lie.
 use Rattle.std.proofs.Common.{◌≡◌, ℕ, zero, suc, ◌+◌, ◌-◌, ◌≤◌, true, not, eqb, List, [], ◌∷◌, ◌++◌, map, length, get_or, take, sym, refl, ap, ◌∙◌, ap₂, inl, inr, arith}
-use Rattle.std.specs.List.{AllByRecursion as All}
+use Rattle.std.specs.List.{AllByRecursion}
 use Rattle.std.proofs.lemmas.List.{length-map, length-append, map-append, take_all, take-append-le}
 use Rattle.std.proofs.ByRecursion.{All-append}
 use Rattle.std.proofs.lemmas.Bool.{and_parts, and_from, eqb-true, eq-eqb, cases_lt, or_cases}
@@ -105,17 +105,17 @@ module _ (sizes order : List ℕ) (w : ℕ) (ss : List (List ℕ)) (at : ℕ) wh
   abbrev pub In : List ℕ → Type 0
   In s = (u : ℕ) → has s u ≡ true → has order u ≡ true
 
-  from_inside : (p : ℕ) (ts : List (List ℕ)) → All In (scopes_from order w p ts)
+  from_inside : (p : ℕ) (ts : List (List ℕ)) → AllByRecursion In (scopes_from order w p ts)
   from_inside p ts = each (split_from order w [] (kept (lies_in order p) (map bare ts)))
     where
-      each : (bs : List (List (Function ℕ))) → All In (map (message_scope order (get_or order (p - 1) 0)) bs)
+      each : (bs : List (List (Function ℕ))) → AllByRecursion In (map (message_scope order (get_or order (p - 1) 0)) bs)
       each [] = tt
       each (b ∷ bs) = (λ u h. (kept_has (mentions b) order u (kept_has (λ x. not (eqb x (get_or order (p - 1) 0))) (variables order b) u h).1).1, each bs)
 
-  pub made_inside : (k : ℕ) → All In (Scopes k)
+  pub made_inside : (k : ℕ) → AllByRecursion In (Scopes k)
   made_inside zero = tt
   made_inside (suc k) = All-append In (Scopes k) _ (made_inside k) (from_inside (length order - k) (ss ++ Scopes k))
 
-  pub names_inside : (fs : List Placed) → All In (scopes_of fs) → (u : ℕ) → names fs u ≡ true → has order u ≡ true
+  pub names_inside : (fs : List Placed) → AllByRecursion In (scopes_of fs) → (u : ℕ) → names fs u ≡ true → has order u ≡ true
   names_inside [] h u m = grind arith
   names_inside (f ∷ fs) h u m = elim (or_cases (has f.scope u) (names fs u) m) [ inl e ↦ h.0 u e | inr e ↦ names_inside fs h.1 u e ]

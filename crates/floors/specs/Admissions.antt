@@ -1,7 +1,7 @@
 -- Each of the three floors climbs.
 use Rattle.std.specs.Prelude.{◌≡◌, ℕ, ◌+◌, ◌-◌, ◌<◌, ◌≤◌, true, false, ◌⊎◌, List, [], ◌∷◌, ◌++◌, map, length, take, drop, ◌==◌, slice_index, refl}
 use Rattle.std.proofs.Common.{sym, ◌∙◌, ap, subst, inl, inr, arith}
-use Rattle.std.specs.List.{AllByRecursion as All}
+use Rattle.std.specs.List.{AllByRecursion}
 use Rattle.std.proofs.lemmas.List.{take-append-drop, drop-drop, drop_all, take_all}
 use Rattle.std.proofs.lemmas.Bool.{or_right, cases_Bool}
 use Rattle.std.proofs.lemmas.Bool.Decides.{nat_tests}
@@ -83,11 +83,11 @@ cheapest_given K sizes given [] F a h = refl
 cheapest_given K sizes given (v ∷ vs) F a h =
     rw (h v (has_first v vs)) (cheapest_given K sizes given vs F a (λ u k. h u (or_right (v == u) _ k)))
 
-all_of : {A : Type 0} (P : A → Type 0) → ((x : A) → P x) → (xs : List A) → All P xs
+all_of : {A : Type 0} (P : A → Type 0) → ((x : A) → P x) → (xs : List A) → AllByRecursion P xs
 all_of P h [] = tt
 all_of P h (x ∷ xs) = (h x, all_of P h xs)
 
-all_within : {C : Type 0} (Q : ℕ → Type 0) (P : Function C → Type 0) → ((f : Function C) → ((v : ℕ) → has f.scope v ≡ true → Q v) → P f) → (fs : List (Function C)) → Within Q fs → All P fs
+all_within : {C : Type 0} (Q : ℕ → Type 0) (P : Function C → Type 0) → ((f : Function C) → ((v : ℕ) → has f.scope v ≡ true → Q v) → P f) → (fs : List (Function C)) → Within Q fs → AllByRecursion P fs
 all_within Q P h [] w = tt
 all_within Q P h (f ∷ fs) w = (h f (within_head Q f fs w), all_within Q P h fs (within_tail Q f fs w))
 

@@ -1,7 +1,7 @@
 -- An order that names as many variables as there are, each once, names them all.
 use Rattle.std.specs.Prelude.{◌≡◌, ℕ, zero, suc, ◌<◌, ◌≤◌, Bool, true, false, not, List, [], ◌∷◌, length, ◌==◌}
 use Rattle.std.proofs.Common.{inl, inr, arith}
-use Rattle.std.specs.List.{AllByRecursion as All}
+use Rattle.std.specs.List.{AllByRecursion}
 use Rattle.std.proofs.lemmas.Bool.{cond_both, cases_Bool}
 use Rattle.std.proofs.lemmas.Bool.Decides.{nat_tests}
 use Rattle.variables.specs.Lists.{has}
@@ -39,7 +39,7 @@ at_most zero [] k d = omega arith
 at_most zero (x ∷ xs) k d = let low : x < 0 = k.0 in absurd (omega arith)
 at_most (suc n) xs k d = omega (arith, length_but n xs d, at_most n (but n xs) (known_but n xs k) (distinct_kept _ xs d))
 
-scopes_known_has : {C : Type 0} (n : ℕ) (fs : List (Function C)) → All (λ f. Known n f.scope) fs → Within (λ v. v < n) fs
+scopes_known_has : {C : Type 0} (n : ℕ) (fs : List (Function C)) → AllByRecursion (λ f. Known n f.scope) fs → Within (λ v. v < n) fs
 scopes_known_has n [] h v m = grind arith
 scopes_known_has n (f ∷ fs) h v m = grind (arith, known_has n f.scope v h.0, scopes_known_has n fs h.1 v)
 

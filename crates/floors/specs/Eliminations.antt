@@ -2,7 +2,7 @@
 use Rattle.std.specs.Prelude.{◌≡◌, ℕ, true, false, not, List, [], ◌∷◌, ◌++◌, map, length, ◌==◌, nat_le, slice_index, refl}
 use Rattle.std.proofs.Common.{sym, ◌∙◌, ap, inl, inr, arith}
 use Rattle.std.proofs.Math.Path.{fun_ext}
-use Rattle.std.specs.List.{AllByRecursion as All}
+use Rattle.std.specs.List.{AllByRecursion}
 use Rattle.std.proofs.lemmas.Bool.{cond_both, or_cases, or_right, or_from}
 use Rattle.std.proofs.lemmas.Bool.Decides.{nat_tests}
 use Rattle.costs.specs.Structures.{Structure, Lawful, total}
@@ -18,13 +18,13 @@ use Rattle.floors.specs.Tables.{Ranged, tabulate_at}
 
 -- the mini-buckets of some functions have together what the functions have
 module _ {C : Type 0} (order : List ℕ) (w : ℕ) where
-  joined_within : (Q : ℕ → Type 0) (f : Function C) (bs : List (List (Function C))) → Within Q (f ∷ []) → All (Within Q) bs → All (Within Q) (joined order w f bs)
+  joined_within : (Q : ℕ → Type 0) (f : Function C) (bs : List (List (Function C))) → Within Q (f ∷ []) → AllByRecursion (Within Q) bs → AllByRecursion (Within Q) (joined order w f bs)
   joined_within Q f [] h hs = (h, tt)
   joined_within Q f (b ∷ bs) h hs =
-      cond_both (nat_le (length (variables order (b ++ (f ∷ [])))) w) ((b ++ (f ∷ [])) ∷ bs) (b ∷ joined order w f bs) (All (Within Q))
+      cond_both (nat_le (length (variables order (b ++ (f ∷ [])))) w) ((b ++ (f ∷ [])) ∷ bs) (b ∷ joined order w f bs) (AllByRecursion (Within Q))
       (λ _. (within_append Q b (f ∷ []) hs.0 h, hs.1)) (λ _. (hs.0, joined_within Q f bs h hs.1))
 
-  pub split_within : (Q : ℕ → Type 0) (bs : List (List (Function C))) (fs : List (Function C)) → All (Within Q) bs → Within Q fs → All (Within Q) (split_from order w bs fs)
+  pub split_within : (Q : ℕ → Type 0) (bs : List (List (Function C))) (fs : List (Function C)) → AllByRecursion (Within Q) bs → Within Q fs → AllByRecursion (Within Q) (split_from order w bs fs)
   split_within Q bs [] hs h = hs
   split_within Q bs (f ∷ fs) hs h =
       split_within Q (joined order w f bs) fs (joined_within Q f bs (λ v m. grind (arith, h v)) hs) (within_tail Q f fs h)
@@ -70,12 +70,12 @@ module _ {C : Type 0} {K : Structure C} (L : Lawful K) (sizes order : List ℕ) 
       le_trans L (le_equal L read)
       (le_trans L (least_le L (λ c. costs_at K sizes (assign a v c) b) (values sizes v) (a v) own) (le_equal L (ap (λ c. costs_at K sizes c b) (assign_self a v))))
 
-  messages_le : (v : ℕ) (a : Assignment) → has order v ≡ true → Ranged sizes order a → (bs : List (List (Function C))) → All (Within (λ u. has order u ≡ true)) bs
+  messages_le : (v : ℕ) (a : Assignment) → has order v ≡ true → Ranged sizes order a → (bs : List (List (Function C))) → AllByRecursion (Within (λ u. has order u ≡ true)) bs
       → Le K (costs_at K sizes a (map (message K sizes order v) bs)) (total K (map (costs_at K sizes a) bs))
   messages_le v a hv ranged [] hs = le_refl L K.neutral
   messages_le v a hv ranged (b ∷ bs) hs = mono L (message_le v a hv ranged b hs.0) (messages_le v a hv ranged bs hs.1)
 
-  pub messages_within : (Q : ℕ → Type 0) (v : ℕ) (bs : List (List (Function C))) → All (Within Q) bs
+  pub messages_within : (Q : ℕ → Type 0) (v : ℕ) (bs : List (List (Function C))) → AllByRecursion (Within Q) bs
       → Within (λ u. (has order u ≡ true) × Q u × ((v == u) ≡ false)) (map (message K sizes order v) bs)
   messages_within Q v [] hs u m = grind arith
   messages_within Q v (b ∷ bs) hs u m =

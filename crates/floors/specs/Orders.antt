@@ -1,7 +1,7 @@
 -- What the laws of a cost structure give: the order, combining, totals and leasts.
 use Rattle.std.specs.Prelude.{◌≡◌, ℕ, Bool, true, cond, not, List, [], ◌∷◌, ◌++◌, map, ◌==◌}
 use Rattle.std.proofs.Common.{sym, ◌∙◌, ap, subst, inl, inr, arith}
-use Rattle.std.specs.List.{AllByRecursion as All}
+use Rattle.std.specs.List.{AllByRecursion}
 use Rattle.std.proofs.lemmas.Bool.{cond_both, or_cases, eqb-true}
 use Rattle.std.proofs.lemmas.Bool.Decides.{nat_tests}
 use Rattle.costs.specs.Structures.{Structure, Lawful, total}
@@ -75,7 +75,7 @@ module _ {C : Type 0} {K : Structure C} (L : Lawful K) where
         (λ e. rw (more x e) (mono (le_refl (g x)) rest))
         (λ _. cond_both (q x) (x ∷ kept q xs) (kept q xs) (λ l. Le K (total K (map g (kept p xs))) (total K (map g l))) (λ _. le_trans rest (grown (g x) _)) (λ _. rest))
 
-  pub total_mono : {A : Type 0} (f g : A → C) (xs : List A) → All (λ x. Le K (f x) (g x)) xs → Le K (total K (map f xs)) (total K (map g xs))
+  pub total_mono : {A : Type 0} (f g : A → C) (xs : List A) → AllByRecursion (λ x. Le K (f x) (g x)) xs → Le K (total K (map f xs)) (total K (map g xs))
   total_mono f g [] h = le_refl K.neutral
   total_mono f g (x ∷ xs) h = mono h.0 (total_mono f g xs h.1)
 

@@ -1,6 +1,6 @@
 -- Settings, prefixes and the values that variables may take.
 use Rattle.std.specs.Prelude.{◌≡◌, ℕ, zero, suc, ◌<◌, ◌≤◌, Bool, true, cond, List, [], ◌∷◌, map, length, take, ◌==◌, slice_index}
-use Rattle.std.specs.List.{AllByRecursion as All}
+use Rattle.std.specs.List.{AllByRecursion}
 use Rattle.costs.specs.Structures.{Structure, total}
 use Rattle.variables.specs.Assignments.{Assignment, cells, of}
 use Rattle.problems.specs.Problems.{Function, Problem, cost_at}
@@ -44,5 +44,5 @@ Fits p x = (length x ≤ length p.order) × ((i : ℕ) → i < length x → slic
 pub record Formed {C : Type 0} (p : Problem C) : Type 0 where
   pub sized : domains p.sizes ≡ true
   pub ordered : is_order (length p.sizes) p.order ≡ true
-  pub scoped : All (λ f. proper (length p.sizes) f.scope ≡ true) p.functions
-  pub tabled : All (λ f. length f.table ≡ cells p.sizes f.scope) p.functions
+  pub scoped : AllByRecursion (λ f. proper (length p.sizes) f.scope ≡ true) p.functions
+  pub tabled : AllByRecursion (λ f. length f.table ≡ cells p.sizes f.scope) p.functions

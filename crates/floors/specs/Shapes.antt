@@ -1,6 +1,6 @@
 -- A formed problem's parts, as recursions over their lists.
 use Rattle.std.specs.Prelude.{◌≡◌, ℕ, ◌<◌, true, false, not, ◌&&◌, List, [], ◌∷◌, length, ◌==◌, nat_le, nat_lt}
-use Rattle.std.specs.List.{AllByRecursion as All}
+use Rattle.std.specs.List.{AllByRecursion}
 use Rattle.std.proofs.lemmas.Bool.{and_parts, not-true, ltb-true, leb-true, eqb-true}
 use Rattle.variables.specs.Lists.{has, known, distinct}
 use Rattle.variables.specs.Assignments.{cells}
@@ -24,24 +24,24 @@ is_known : (n : ℕ) (vs : List ℕ) → known n vs ≡ true → Known n vs
 is_known n [] h = tt
 is_known n (v ∷ vs) h = let both = and_parts (nat_lt v n) (known n vs) h in (ltb-true v n both.0, is_known n vs both.1)
 
-some_domains : (sizes : List ℕ) → domains sizes ≡ true → All (λ k. 0 < k) sizes
+some_domains : (sizes : List ℕ) → domains sizes ≡ true → AllByRecursion (λ k. 0 < k) sizes
 some_domains [] h = tt
 some_domains (k ∷ sizes) h =
     let both = and_parts (domain k) (domains sizes) h in
     (leb-true 1 k (and_parts (nat_le 1 k) (nat_le k 16) both.0).0, some_domains sizes both.1)
 
-all_map : {A : Type 0} (P Q : A → Type 0) → ((x : A) → P x → Q x) → (xs : List A) → All P xs → All Q xs
+all_map : {A : Type 0} (P Q : A → Type 0) → ((x : A) → P x → Q x) → (xs : List A) → AllByRecursion P xs → AllByRecursion Q xs
 all_map P Q h [] all = tt
 all_map P Q h (x ∷ xs) all = (h x all.0, all_map P Q h xs all.1)
 
 pub record Shaped {C : Type 0} (p : Problem C) : Type 0 where
-  pub sizes_are : All (λ k. 0 < k) p.sizes
+  pub sizes_are : AllByRecursion (λ k. 0 < k) p.sizes
   pub order_length : length p.order ≡ length p.sizes
   pub order_known : Known (length p.sizes) p.order
   pub order_distinct : Distinct p.order
-  pub scopes_known : All (λ f. Known (length p.sizes) f.scope) p.functions
-  pub scopes_distinct : All (λ f. Distinct f.scope) p.functions
-  pub tables_are : All (λ f. length f.table ≡ cells p.sizes f.scope) p.functions
+  pub scopes_known : AllByRecursion (λ f. Known (length p.sizes) f.scope) p.functions
+  pub scopes_distinct : AllByRecursion (λ f. Distinct f.scope) p.functions
+  pub tables_are : AllByRecursion (λ f. length f.table ≡ cells p.sizes f.scope) p.functions
 
 pub shaped : {C : Type 0} (p : Problem C) → Formed p → Shaped p
 shaped {C} p formed =

@@ -1,6 +1,6 @@
 -- What every call on a draft has passed: its stage, and the area's length.
-use Rattle.std.proofs.Common.{◌≡◌, ℕ, ◌<◌, ◌≤◌, true, List, ◌++◌, length, None, sym, refl, ap, ◌∙◌, arith}
-use Rattle.std.proofs.lemmas.Bool.{not-false, eqb-true, cond-false}
+use Rattle.std.proofs.Common.{◌≡◌, ℕ, ◌<◌, ◌≤◌, Bool, true, ◌||◌, List, ◌++◌, length, None, sym, refl, ap, ◌∙◌, arith}
+use Rattle.std.proofs.lemmas.Bool.{not-false, eqb-true, leb-true, cond-false}
 use Rattle.variables.specs.Refusals.{Row, first_of}
 use Rattle.problems.specs.Outlines.{outline, amending, cell_of}
 use Rattle.variables.proofs.Rows.{no_row}
@@ -12,13 +12,19 @@ use Rattle.jobs.specs.declared.stage.Call.{Call}
 use Rattle.jobs.specs.declared.job.Plain.{Plain}
 use Rattle.jobs.specs.Stages.{is_closed, is_draft, takes, stage_rows}
 use Rattle.jobs.specs.Calls.{length_rows}
-use Rattle.jobs.proofs.Sounds.{some_variable, tables_inside}
+use Rattle.jobs.proofs.Sounds.{some_variable}
 
 draft_is : (stage : Stage) → is_draft stage ≡ true → stage ≡ Draft
 draft_is Closed h = grind arith
 draft_is Draft h = refl
 draft_is Running h = grind arith
 draft_is Ended h = grind arith
+
+open_is : (stage : Stage) (b : Bool) → is_draft stage ≡ true → (is_closed stage || b) ≡ true → b ≡ true
+open_is Closed b h k = grind arith
+open_is Draft b h k = k
+open_is Running b h k = grind arith
+open_is Ended b h k = grind arith
 
 module _ (p : Plain) (call : Call) (cells : ℕ) (drafts : takes p.stage call ≡ is_draft p.stage)
     (staged : first_of (stage_rows p.stage call) ≡ None) (long : first_of (length_rows p.noted cells) ≡ None) where
@@ -34,7 +40,7 @@ module _ (p : Plain) (call : Call) (cells : ℕ) (drafts : takes p.stage call �
 
   -- every table lies in the area
   pub inside : (outline p.shape).used ≤ cells
-  inside = omega (arith, noted_is, tables_inside p.stage (outline p.shape) p.noted (spot_of p.shape.order p.place) (ap is_closed stage_is) p.sound)
+  inside = omega (arith, noted_is, leb-true (outline p.shape).used p.noted (open_is p.stage _ is_in_draft p.inside))
 
   -- and there is a variable
   pub some : 1 ≤ length (outline p.shape).sizes

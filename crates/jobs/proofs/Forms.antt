@@ -1,6 +1,6 @@
 -- A job that has an order is a formed problem, and writes to other cells than the tables' leave it as it is.
 use Rattle.std.proofs.Common.{◌≡◌, ℕ, suc, ◌+◌, ◌<◌, ◌≤◌, true, eqb, ltb, List, [], ◌∷◌, map, length, get_or, take, drop, set, refl, ap, arith}
-use Rattle.std.specs.List.{AllByRecursion as All}
+use Rattle.std.specs.List.{AllByRecursion}
 use Rattle.std.proofs.lemmas.List.{length-take, length-take-le, length-drop, get_or-take, drop-set-lt}
 use Rattle.std.proofs.lemmas.Bool.{and_parts, and_from, eqb-true, le-leb, ltb-true}
 use Rattle.variables.specs.declared.plain.Sizes.{Sizes}
@@ -39,12 +39,12 @@ first_size s [] some h = absurd (omega arith)
 first_size s (v ∷ order) some h = some_value s v (ltb-true v (length (sizes_of s)) (and_parts (ltb v (length (sizes_of s))) _ h).0)
 
 module _ {C : Type 0} (sizes : List ℕ) (area : List C) where
-  proper_all : (n : ℕ) (fs : List Placed) → all_proper n fs ≡ true → All (λ (f : Function C). proper n f.scope ≡ true) (map (function_in sizes area) fs)
+  proper_all : (n : ℕ) (fs : List Placed) → all_proper n fs ≡ true → AllByRecursion (λ (f : Function C). proper n f.scope ≡ true) (map (function_in sizes area) fs)
   proper_all n [] h = tt
   proper_all n (f ∷ fs) h = let both = and_parts (proper n f.scope) _ h in (both.0, proper_all n fs both.1)
 
   tabled_all : (from to : ℕ) (fs : List Placed) → laid_from sizes from fs to ≡ true → to ≤ length area
-      → All (λ (f : Function C). length f.table ≡ cells sizes f.scope) (map (function_in sizes area) fs)
+      → AllByRecursion (λ (f : Function C). length f.table ≡ cells sizes f.scope) (map (function_in sizes area) fs)
   tabled_all from to [] h room = tt
   tabled_all from to (f ∷ fs) h room =
       let both = and_parts (eqb f.start from) _ h in

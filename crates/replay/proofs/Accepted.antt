@@ -1,6 +1,6 @@
 -- What an accepted call says of the stage that took it.
 use Rattle.std.proofs.Common.{◌≡◌, ℕ, true, false, List, [], ◌∷◌, None, refl}
-use Rattle.std.specs.List.{AllByRecursion as All}
+use Rattle.std.specs.List.{AllByRecursion}
 use Rattle.std.proofs.lemmas.Bool.{not-false}
 use Rattle.variables.specs.Refusals.{Row, first_of}
 use Rattle.variables.proofs.Rows.{rows_passed}
@@ -15,7 +15,7 @@ use Rattle.jobs.specs.Planning.{prepare_rows, step_rows, report_rows, reopen_row
 use Rattle.replay.proofs.Standings.{prepared}
 
 -- no row of a call that was accepted holds
-pub passed : (rows : List Row) → first_of rows ≡ None → All (λ row. row.when ≡ false) rows
+pub passed : (rows : List Row) → first_of rows ≡ None → AllByRecursion (λ row. row.when ≡ false) rows
 passed [] h = tt
 passed (row ∷ rows) h =
     let both = rows_passed row.when row.refusal (first_of rows) h in
