@@ -3,7 +3,7 @@
 
 usage: python3 tools/respell.py [--list]      at the top of the repository; --list prints the renamings and changes nothing
 
-Names from the sources, names that the library has too, and names of goals stay as they are.
+Names from the sources, names that the library has too, names of goals, strings and comments stay as they are.
 """
 
 import os
@@ -82,10 +82,16 @@ def renamings(root):
     return new, kept & {n for n in own if "-" in n}, together
 
 
+PLAIN = re.compile(r'b?"(?:[^"\\\n]|\\.)*"|//[^\n]*|(?<!\S)--(?!\S)[^\n]*')
+
+
 def turn(text, new):
-    """The text with its names respelled; what follows c., w. or l. is a step or a variable of a function, not a name of ours."""
+    """The text with its names respelled, but for strings and comments; what follows c., w. or l. is a step or a variable of a function, not a name of ours."""
+    plain = [(m.start(), m.end()) for m in PLAIN.finditer(text)]
 
     def one(m):
+        if any(a <= m.start() < b for a, b in plain):
+            return m.group(0)
         if re.search(r"(?<![A-Za-z0-9_'])[cwl]\.$", text[: m.start()][-3:]):
             return m.group(0)
         return new.get(m.group(0), m.group(0))

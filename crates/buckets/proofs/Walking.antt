@@ -1,4 +1,4 @@
--- AllByRecursion buckets, from the last down.
+-- All buckets, from the last down.
 use Rattle.std.proofs.Common.{◌≡◌, ℕ, suc, ◌+◌, ◌-◌, ◌*◌, ◌<◌, ◌≤◌, true, eqb, ltb, leb, List, [], ◌∷◌, ◌++◌, map, length, get_or, take, drop, set, sym, refl, ap, ◌∙◌, subst, ap₂, inl, inr, suc-mul, arith}
 use Rattle.std.specs.List.{AllByRecursion}
 use Rattle.std.proofs.lemmas.List.{length-map, length-append, append_assoc, append-nil, map-append, map-id, take-take, drop-drop, get_or-set_same, get_or-set_other}

@@ -21,7 +21,7 @@ pub enum Command {
 }
 
 const USAGE: &str =
-    "usage: planner cost JOB VALUE... | planner floors JOB [--width W] [--order natural|min_fill|V,V] [--area CELLS] | planner run SCRIPT";
+    "usage: planner cost JOB VALUE... | planner floors JOB [--width W] [--order natural|min-fill|V,V] [--area CELLS] | planner run SCRIPT";
 
 // The value that a word stands for: a number from 0 to 255.
 fn value_of(heap: Global, k: usize, word: &str) -> Result<u8, Stop>

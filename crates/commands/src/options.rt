@@ -35,7 +35,7 @@ fn variables_of(heap: Global, word: &str) -> Result<Vec<u8>, Stop> {
         match number_in(part, 0, 255) {
             Some(v) => variables.push(v as u8)?,
             None => return Err(Stop::Said(format!(in heap;
-                "planner: --order is `{word}`, and not natural, min_fill or variables with commas"
+                "planner: --order is `{word}`, and not natural, min-fill or variables with commas"
             )?)),
         }
     }
@@ -45,7 +45,7 @@ fn variables_of(heap: Global, word: &str) -> Result<Vec<u8>, Stop> {
 fn along_of(heap: Global, word: &str) -> Result<Along, Stop> {
     match word {
         "natural" => Ok(Along::Natural),
-        "min_fill" => Ok(Along::MinFill),
+        "min-fill" => Ok(Along::MinFill),
         _ => Ok(Along::Listed(variables_of(heap, word)?)),
     }
 }

@@ -15,6 +15,6 @@ eliminated (suc n) cs left =
     let v : ℕ = fewest cs left in
     v ∷ eliminated n (cs ++ neighbours cs left v ∷ []) (others left v)
 
--- min_fill: the reverse of the elimination
+-- min-fill: the reverse of the elimination
 abbrev pub min_fill : Outline → List ℕ
 min_fill o = reverse (eliminated (length o.sizes) (scopes o.functions) (numbered (length o.sizes)))
