@@ -56,7 +56,7 @@ impl TableRecord {
     }
 
     // What it costs at a setting: the content of its cell, neutral past the area's end.
-    pub(crate) fn cost<C: Cost>(&self, sizes: &Sizes, setting: &Setting, area: &[C]) -> C
+    pub fn cost<C: Cost>(&self, sizes: &Sizes, setting: &Setting, area: &[C]) -> C
         ensures { result ≡ held C.Cost.structure (sizes_of sizes.now) area.now (of (values_of setting.now)) (tabled self.now) }
     {
         let at = self.start.saturating_add(self.scope.cell(sizes, setting));

@@ -44,31 +44,31 @@ fn values_of(heap: Global, words: Args) -> Result<Vec<u8>, Stop> {
     Ok(values)
 }
 
-// The word that names a file.
-fn file_of(heap: Global, words: &mut Args, command: &str) -> Result<String, Stop> {
+// The word that names the file of a job or a script.
+fn file_of(heap: Global, words: &mut Args, command: &str, what: &str) -> Result<String, Stop> {
     match words.next() {
         Some(file) => Ok(file),
-        None => Err(Stop::Said(format!(in heap; "planner {command}: no file is named; {USAGE}")?)),
+        None => Err(Stop::Said(format!(in heap; "planner {command}: no {what}; {USAGE}")?)),
     }
 }
 
 // cost JOB VALUE...
 fn cost_of(heap: Global, mut words: Args) -> Result<Command, Stop> {
-    let job = file_of(heap, &mut words, "cost")?;
+    let job = file_of(heap, &mut words, "cost", "job")?;
     let values = values_of(heap, words)?;
     Ok(Command::Cost { job, values })
 }
 
 // floors JOB [OPTION...]
 fn floors_of(heap: Global, mut words: Args) -> Result<Command, Stop> {
-    let job = file_of(heap, &mut words, "floors")?;
+    let job = file_of(heap, &mut words, "floors", "job")?;
     let asked = asked_of(heap, words)?;
     Ok(Command::Floors { job, asked })
 }
 
 // run SCRIPT
 fn run_of(heap: Global, mut words: Args) -> Result<Command, Stop> {
-    let script = file_of(heap, &mut words, "run")?;
+    let script = file_of(heap, &mut words, "run", "script")?;
     if let Some(extra) = words.next() {
         return Err(Stop::Said(format!(in heap; "planner run: `{extra}` is left over; {USAGE}")?));
     }

@@ -1,8 +1,12 @@
 // The planner: commands `cost` and `floors`.
 #![tactic(auto)]
 
-use std::io;
+use std::process::ExitCode;
 
-fn main(rt: HostRuntime) -> io::Result<()> {
-    commands::perform(&rt)
+// A mistake has had its line on standard error, and nothing more is said.
+fn main(rt: HostRuntime) -> ExitCode {
+    match commands::perform(&rt) {
+        Ok(()) => ExitCode::SUCCESS,
+        Err(_) => ExitCode::FAILURE,
+    }
 }
