@@ -1,4 +1,4 @@
-// The planner: commands `cost` and `floors`.
+// The planner: commands `cost`, `floors` and `run`.
 #![tactic(auto)]
 
 use std::process::ExitCode;
