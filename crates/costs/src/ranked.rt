@@ -1,6 +1,6 @@
 // Costs of two ranks: the first number decides, the second breaks ties.
 ghost use Rattle.std.specs.Prelude.{◌≡◌};
-ghost use Rattle.costs.specs.Kinds.{ranked, ranked_of, pair_at_most};
+ghost use Rattle.costs.specs.Kinds.{ranked, ranked_of};
 ghost use Rattle.std.proofs.Common.{rules};
 
 use crate::cost::Cost;
@@ -24,13 +24,6 @@ impl Pair {
     }
 }
 
-// Whether one pair comes before another or is the same, first by first.
-fn comes_first(a: Pair, b: Pair) -> bool
-    ensures { result ≡ pair_at_most a b }
-{
-    a.first < b.first || (a.first == b.first && a.second <= b.second)
-}
-
 impl Cost for Pair {
     ghost structure = { ranked };
 
@@ -51,9 +44,6 @@ impl Cost for Pair {
     }
 
     fn is_at_most(self, other: Pair) -> bool {
-        comes_first(
-            Pair::ranked(self.first, self.second),
-            Pair::ranked(other.first, other.second),
-        )
+        Pair::ranked(self.first, self.second) <= Pair::ranked(other.first, other.second)
     }
 }

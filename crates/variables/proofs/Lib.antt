@@ -4,3 +4,4 @@ pub mod Cells
 pub mod Rows
 pub mod Tuples
 pub mod Prefixes
+pub mod Pushes

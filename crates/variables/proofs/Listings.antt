@@ -1,10 +1,15 @@
 -- Lists of variables, put together.
-use Rattle.std.proofs.Common.{◌≡◌, ℕ, ◌+◌, ◌<◌, true, false, not, ◌&&◌, ◌||◌, List, [], ◌∷◌, ◌++◌, length, get_or, take, drop, sym, refl, ap, ◌∙◌, inl, inr, arith}
+use Rattle.std.proofs.Common.{◌≡◌, ℕ, ◌+◌, ◌<◌, true, false, not, ◌&&◌, ◌||◌, eqb, List, [], ◌∷◌, ◌++◌, length, get_or, take, drop, sym, refl, ap, ◌∙◌, inl, inr, arith}
 use Rattle.std.proofs.lemmas.List.{length-append, take-append-drop, take_more}
 use Rattle.std.proofs.lemmas.Bool.{cases_Bool, both_ways}
 use Rattle.std.proofs.lemmas.Bool.Decides.{nat_tests}
+use Rattle.std.specs.List.{list_any}
 use Rattle.variables.specs.Lists.{has, known, distinct}
 use Rattle.variables.specs.Rules.{chosen, barred}
+
+pub has_any : (vs : List ℕ) (v : ℕ) → has vs v ≡ list_any (λ u. eqb u v) vs
+has_any [] v = refl
+has_any (u ∷ us) v = ap (λ b. eqb u v || b) (has_any us v)
 
 pub has_append : (us vs : List ℕ) (v : ℕ) → has (us ++ vs) v ≡ (has us v || has vs v)
 has_append [] vs v = refl

@@ -1,5 +1,6 @@
 -- What the plain records say.
 use Rattle.std.specs.Prelude.{◌≡◌, ℕ, ◌+◌, ◌<◌, ◌≤◌, List, [], ◌∷◌, ◌++◌, map, length, take, Ok, Err, Result, slice_index, slice_set}
+use Rattle.lists.specs.Lists.{items_of}
 use Rattle.variables.specs.declared.plain.Sizes.{Sizes}
 use Rattle.variables.specs.declared.plain.Order.{Order}
 use Rattle.variables.specs.declared.plain.Scope.{Scope}
@@ -15,7 +16,7 @@ sizes_of s = take s.len s.sizes
 
 -- the variables along the order
 abbrev pub order_of : Order → List ℕ
-order_of o = take o.len o.variables
+order_of o = items_of o.variables
 
 -- the variables of a scope
 abbrev pub scope_of : Scope → List ℕ

@@ -6,10 +6,5 @@ ghost use Rattle.variables.specs.Lists.{has};
 pub fn lists(variables: &[u8], variable: u8) -> bool
     ensures { result ≡ has variables.now variable }
 {
-    for v in variables {
-        if *v == variable {
-            return true;
-        }
-    }
-    false
+    variables.contains(&variable)
 }

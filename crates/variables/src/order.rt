@@ -7,15 +7,15 @@ ghost use Rattle.variables.specs.Rules.{order_rows, next_rows};
 use crate::listing::lists;
 pub use crate::plain::Order;
 use crate::refusal::Refusal;
-use crate::sizes::{MOST_VARIABLES, Sizes};
+use crate::sizes::Sizes;
+use lists::ShortList;
 
 impl Order {
     pub fn none() -> Order
         ensures { order_of result ≡ [] }
     {
         Order {
-            variables: [0; 32],
-            len: 0,
+            variables: ShortList::none(0),
         }
     }
 
@@ -40,19 +40,14 @@ impl Order {
             (λ _. order_of self.new ≡ order_of self.old ++ variable ∷ [])
             (self.new ≡ self.old) }
     {
-        let len = self.len;
-        if len == MOST_VARIABLES
-            || variable as usize >= sizes.len()
-            || lists(self.variables(), variable)
-        {
+        if variable as usize >= sizes.len() || lists(self.variables(), variable) {
             return Err(Refusal::Order);
         }
         let mut variables = self.variables;
-        variables[len] = variable;
-        *self = Order {
-            variables,
-            len: len + 1,
+        let Ok(()) = variables.push(variable) else {
+            return Err(Refusal::Order);
         };
+        *self = Order { variables };
         Ok(())
     }
 
@@ -60,7 +55,6 @@ impl Order {
     pub fn variables(&self) -> &[u8]
         ensures { result.now ≡ order_of self.now }
     {
-        let len = self.len;
-        &self.variables[0..len]
+        self.variables.as_slice()
     }
 }

@@ -1,6 +1,9 @@
 // The plain records of variables. Their functions stand in the files of their names.
 ghost use Rattle.std.specs.Prelude.{◌≡◌, ℕ, ◌<◌, ◌≤◌, true, length, take, slice_index};
+ghost use Rattle.lists.specs.Lists.{items_of};
 ghost use Rattle.variables.specs.Lists.{distinct};
+
+use lists::ShortList;
 
 // Domain sizes by variable number; past the last variable they are 0.
 #[derive(Clone, Copy)]
@@ -16,11 +19,9 @@ pub struct Sizes {
 // The variables along an order, none of them twice.
 #[derive(Clone, Copy)]
 pub struct Order {
-    pub(crate) variables: [u8; 32],
-    pub(crate) len: usize,
-    ghost few: { len ≤ 32 },
-    ghost within: { (p : ℕ) → slice_index variables p < 32 },
-    ghost apart: { distinct (take len variables) ≡ true },
+    pub(crate) variables: ShortList<u8, 32>,
+    ghost within: { (p : ℕ) → slice_index (items_of variables) p < 32 },
+    ghost apart: { distinct (items_of variables) ≡ true },
 }
 
 // A value for each variable, by its number; one that was not given is 0.

@@ -45,7 +45,8 @@ impl Prefix {
         ensures after { MatchBool result (Longer order.now self.old self.new value) (self.new ≡ self.old) }
     {
         let len = self.len;
-        if len >= order.len {
+        let variables = order.variables();
+        if len >= variables.len() {
             return false;
         }
         let Prefix {
@@ -53,7 +54,7 @@ impl Prefix {
             len: given,
             ..
         } = self;
-        setting.give(order.variables[len], value);
+        setting.give(variables[len], value);
         *given = len + 1;
         true
     }
@@ -64,10 +65,11 @@ impl Prefix {
         ensures after { MatchOption result (self.new ≡ self.old) (Shorter order.now self.old self.new) }
     {
         let len = self.len;
-        if len == 0 || len > order.len {
+        let variables = order.variables();
+        if len == 0 || len > variables.len() {
             return None;
         }
-        let variable = order.variables[len - 1];
+        let variable = variables[len - 1];
         let Prefix {
             setting,
             len: given,

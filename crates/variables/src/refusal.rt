@@ -4,20 +4,20 @@ ghost use Rattle.variables.specs.Refusals.{number_of};
 
 #[derive(Clone, Copy, PartialEq, Eq, Debug)]
 pub enum Refusal {
-    Variables,
-    Size,
-    Area,
-    Stage,
-    AreaLength,
-    Scope,
-    Functions,
-    Room,
-    Function,
-    Tuple,
-    Order,
-    Source,
-    Budget,
-    Buffer,
+    Variables = 1,
+    Size = 2,
+    Area = 3,
+    Stage = 4,
+    AreaLength = 5,
+    Scope = 6,
+    Functions = 7,
+    Room = 8,
+    Function = 9,
+    Tuple = 10,
+    Order = 11,
+    Source = 12,
+    Budget = 13,
+    Buffer = 14,
 }
 
 impl Refusal {
@@ -25,21 +25,6 @@ impl Refusal {
     pub fn number(self) -> u8
         ensures { result ≡ number_of self }
     {
-        match self {
-            Refusal::Variables => 1,
-            Refusal::Size => 2,
-            Refusal::Area => 3,
-            Refusal::Stage => 4,
-            Refusal::AreaLength => 5,
-            Refusal::Scope => 6,
-            Refusal::Functions => 7,
-            Refusal::Room => 8,
-            Refusal::Function => 9,
-            Refusal::Tuple => 10,
-            Refusal::Order => 11,
-            Refusal::Source => 12,
-            Refusal::Budget => 13,
-            Refusal::Buffer => 14,
-        }
+        self as u8
     }
 }

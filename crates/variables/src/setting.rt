@@ -44,11 +44,6 @@ impl Setting {
     pub fn value(&self, variable: u8) -> u8
         ensures { result ≡ of (values_of self.now) variable }
     {
-        let slot = variable as usize;
-        if slot < self.values.len() {
-            self.values[slot]
-        } else {
-            0
-        }
+        self.values.get(variable as usize).copied().unwrap_or(0)
     }
 }

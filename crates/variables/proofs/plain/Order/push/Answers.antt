@@ -1,25 +1,18 @@
-use Rattle.std.proofs.Common.{◌≡◌, ◌+◌, ◌<◌, true, false, take, set, arith}
-use Rattle.std.proofs.lemmas.List.{take_more_set, length-take-le, length-take}
-use Rattle.std.proofs.lemmas.Bool.Decides.{nat_tests}
-use Rattle.variables.specs.Lists.{has, distinct}
+use Rattle.std.proofs.Common.{◌≡◌, ◌<◌, false, refl, ◌∙◌, sym, arith}
+use Rattle.std.proofs.lemmas.List.{length-take}
+use Rattle.variables.specs.Lists.{has}
 use Rattle.variables.specs.Records.{order_of}
-use Rattle.variables.proofs.Slots.{each_after}
 use Rattle.variables.proofs.Listings.{distinct_push}
+use Rattle.variables.proofs.Pushes.{each_more}
 use Rattle.variables.proofs.plain.Order.push.Goals as goal
 
 pub invariant_of-self : goal.invariant_of-self
 invariant_of-self c =
     let s = c.args.self.now in
     let v = c.args.variable in
-    let more = take_more_set s.variables s.len v (omega arith) in
-    let new : has (order_of s) v ≡ false = grind arith in
+    let new : has (order_of s) v ≡ false = rw (← c.variables.ensures) (sym c.lists.ensures ∙ c.if-lists.false) in
     let few : v < 32 = omega (arith, length-take c.args.sizes.now.len c.args.sizes.now.sizes) in
-    let apart : distinct (take (s.len + 1) (set s.variables s.len v)) ≡ true = rw (more, distinct_push (order_of s) v, s.apart, new) in
-    record { few = omega arith; within = each_after (λ x. x < 32) s.variables s.len v 0 few s.within; apart = apart }
-
-pub returns : goal.returns
-returns c =
-    let s = c.args.self.now in
-    let v = c.args.variable in
-    let long = length-take-le s.len s.variables (omega arith) in
-    (grind (arith, nat_tests), take_more_set s.variables s.len v (omega arith))
+    record {
+      within = rw c.in-Ok.ensures.added (each_more (order_of s) v few s.within);
+      apart = rw (c.in-Ok.ensures.added, distinct_push (order_of s) v, s.apart, new) refl;
+    }

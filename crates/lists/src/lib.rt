@@ -1,0 +1,7 @@
+// Lists in fixed memory.
+#![tactic(auto)]
+
+mod filling;
+mod plain;
+
+pub use plain::{Full, ShortList};
