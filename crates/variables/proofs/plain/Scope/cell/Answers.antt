@@ -1,15 +1,9 @@
 use Rattle.std.proofs.Common.{◌+◌, ◌≤◌, get_or, sym, ◌∙◌, arith, rules}
-use Rattle.std.proofs.lemmas.List.{at_drop_more, at_drop_all, length-take}
+use Rattle.std.proofs.lemmas.List.{at_drop_all, length-take}
 use Rattle.variables.specs.Assignments.{of, cell_from}
 use Rattle.variables.specs.Records.{sizes_of, scope_of, values_of}
-use Rattle.variables.proofs.Cells.{size_slot, arity_few, variable_slot, in_scope, place_more, place_fits, place_few}
+use Rattle.variables.proofs.Cells.{arity_few, place_more, place_fits, place_few}
 use Rattle.variables.proofs.plain.Scope.cell.Goals as goal
-
-pub bounds-sizes-v : goal.bounds-sizes-v
-bounds-sizes-v c = variable_slot c.args.self.now _ c.variables-v-items.ensures c.loop-v.v-index c.loop-v-test.true
-
-pub bounds-setting-v : goal.bounds-setting-v
-bounds-setting-v c = variable_slot c.args.self.now _ c.variables-v-items.ensures c.loop-v.v-index c.loop-v-test.true
 
 pub overflow_mul-at : goal.overflow_mul-at
 overflow_mul-at c =
@@ -25,17 +19,6 @@ overflow_add-at c =
     let few = arity_few c.args.self.now _ c.variables-v-items.ensures i c.loop-v-test.true in
     let byte : get_or c.args.setting.now.values v 0 ≤ 255 = search rules in
     place_fits _ (i + 1) _ (omega arith) (place_more c.loop-v.at (get_or c.args.sizes.now.sizes v 0) (get_or c.args.setting.now.values v 0) i c.loop-v.invariant.1 (c.args.sizes.now.small v) byte) (omega arith)
-
-pub loop-v-preserved : goal.loop-v-preserved
-loop-v-preserved c =
-    let i = c.loop-v.v-index in
-    let v = get_or c.variables-v-items.result.now i 0 in
-    let byte : get_or c.args.setting.now.values v 0 ≤ 255 = search rules in
-    let step = at_drop_more (λ vs. cell_from (sizes_of c.args.sizes.now) c.loop-v.at vs (of (values_of c.args.setting.now))) (scope_of c.args.self.now) i 0
-    (in_scope c.args.self.now _ c.variables-v-items.ensures i c.loop-v-test.true) in (
-      rw (c.variables-v-items.ensures, ← size_slot c.args.sizes.now (get_or (scope_of c.args.self.now) i 0), ← step) c.loop-v.invariant.0,
-      place_more c.loop-v.at (get_or c.args.sizes.now.sizes v 0) (get_or c.args.setting.now.values v 0) i c.loop-v.invariant.1 (c.args.sizes.now.small v) byte,
-    )
 
 pub returns : goal.returns
 returns c =

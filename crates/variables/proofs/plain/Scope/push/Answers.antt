@@ -1,6 +1,5 @@
 use Rattle.std.proofs.Common.{◌≡◌, ◌+◌, ◌<◌, true, false, take, set, arith}
-use Rattle.std.proofs.lemmas.List.{take_more_set, length-take-le, length-take}
-use Rattle.std.proofs.lemmas.Bool.Decides.{nat_tests}
+use Rattle.std.proofs.lemmas.List.{take_more_set, length-take}
 use Rattle.variables.specs.Lists.{has, distinct}
 use Rattle.variables.specs.Records.{scope_of}
 use Rattle.variables.proofs.Slots.{each_after}
@@ -16,10 +15,3 @@ invariant_of-self c =
     let few : v < 32 = omega (arith, length-take c.args.sizes.now.len c.args.sizes.now.sizes) in
     let apart : distinct (take (s.len + 1) (set s.variables s.len v)) ≡ true = rw (more, distinct_push (scope_of s) v, s.apart, new) in
     record { few = omega arith; within = each_after (λ x. x < 32) s.variables s.len v 0 few s.within; apart = apart }
-
-pub returns : goal.returns
-returns c =
-    let s = c.args.self.now in
-    let v = c.args.variable in
-    let long = length-take-le s.len s.variables (omega arith) in
-    (grind (arith, nat_tests), take_more_set s.variables s.len v (omega arith))

@@ -1,6 +1,6 @@
 use Rattle.std.proofs.Common.{◌+◌, ◌≤◌, ◌&&◌, length, get_or, drop, sym, ap, ◌∙◌, inl, inr, arith}
 use Rattle.std.proofs.lemmas.List.{take_all, drop_all}
-use Rattle.std.proofs.lemmas.Bool.{cases_Bool, lt-ltb, le-ltb}
+use Rattle.std.proofs.lemmas.Bool.{cases_Bool, lt-ltb}
 use Rattle.variables.specs.Records.{sizes_of, scope_of}
 use Rattle.variables.specs.Rules.{fits}
 use Rattle.variables.proofs.Cells.{variable_slot}
@@ -15,17 +15,6 @@ returns-then-variables-tuple c =
       | inl e ↦ absurd (c.if-variables-tuple.true (ap length c.variables-variables.ensures ∙ fits_length sizes scope c.args.tuple.now e))
       | inr e ↦ e
     ]
-
-pub returns-then-tuple-k : goal.returns-then-tuple-k
-returns-then-tuple-k c =
-    let sizes = sizes_of c.args.sizes.now in
-    let scope = scope_of c.args.self.now in
-    let k = c.loop-k.k in
-    let long = ap length c.variables-variables.ensures in
-    let step = fits_more sizes scope c.args.tuple.now k (omega arith) (omega arith) in
-    let value = ap (λ vs. get_or sizes (get_or vs k 0) 0) c.variables-variables.ensures in
-    let bad = le-ltb (get_or c.args.tuple.now k 0) (get_or sizes (get_or scope k 0) 0) (omega arith) in
-    sym c.loop-k.invariant.1 ∙ step ∙ ap (λ b. b && fits sizes (drop (k + 1) scope) (drop (k + 1) c.args.tuple.now)) bad
 
 pub loop-k-preserved : goal.loop-k-preserved
 loop-k-preserved c =

@@ -1,12 +1,9 @@
-use Rattle.std.proofs.Common.{◌+◌, ◌*◌, get_or, sym, ap, ◌∙◌, mul_assoc, mul-one, arith}
-use Rattle.std.proofs.lemmas.List.{at_drop_more, at_drop_all, length-take}
+use Rattle.std.proofs.Common.{◌+◌, ◌*◌, get_or, sym, ap, ◌∙◌, mul-one, arith}
+use Rattle.std.proofs.lemmas.List.{at_drop_all, length-take}
 use Rattle.variables.specs.Assignments.{cells}
 use Rattle.variables.specs.Records.{sizes_of, scope_of}
-use Rattle.variables.proofs.Cells.{size_slot, arity_few, variable_slot, in_scope, count_more, count_fits, count_few}
+use Rattle.variables.proofs.Cells.{arity_few, count_more, count_fits, count_few}
 use Rattle.variables.proofs.plain.Scope.table_cells.Goals as goal
-
-pub bounds-sizes-v : goal.bounds-sizes-v
-bounds-sizes-v c = variable_slot c.args.self.now _ c.variables-v-items.ensures c.loop-v.v-index c.loop-v-test.true
 
 pub overflow_mul-count : goal.overflow_mul-count
 overflow_mul-count c =
@@ -14,16 +11,6 @@ overflow_mul-count c =
     let v = get_or c.variables-v-items.result.now i 0 in
     let few = arity_few c.args.self.now _ c.variables-v-items.ensures i c.loop-v-test.true in
     count_fits _ (i + 1) (omega arith) (count_more c.loop-v.count (get_or c.args.sizes.now.sizes v 0) i c.loop-v.invariant.1 (c.args.sizes.now.small v))
-
-pub loop-v-preserved : goal.loop-v-preserved
-loop-v-preserved c =
-    let i = c.loop-v.v-index in
-    let v = get_or c.variables-v-items.result.now i 0 in
-    let step = at_drop_more (cells (sizes_of c.args.sizes.now)) (scope_of c.args.self.now) i 0
-    (in_scope c.args.self.now _ c.variables-v-items.ensures i c.loop-v-test.true) in (
-      rw (c.variables-v-items.ensures, ← size_slot c.args.sizes.now (get_or (scope_of c.args.self.now) i 0), mul_assoc, ← step) c.loop-v.invariant.0,
-      count_more c.loop-v.count (get_or c.args.sizes.now.sizes v 0) i c.loop-v.invariant.1 (c.args.sizes.now.small v),
-    )
 
 pub returns : goal.returns
 returns c =

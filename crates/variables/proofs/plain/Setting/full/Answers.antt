@@ -1,11 +1,8 @@
-use Rattle.std.proofs.Common.{ℕ, get_or, refl, ap, ◌∙◌, arith, below_more}
-use Rattle.std.proofs.lemmas.List.{take_all, length-set, length-take}
+use Rattle.std.proofs.Common.{ℕ, get_or, refl, ◌∙◌, arith, below_more}
+use Rattle.std.proofs.lemmas.List.{length-set, length-take}
 use Rattle.variables.proofs.Cells.{size_slot}
 use Rattle.variables.proofs.Slots.{copied, same_slots}
 use Rattle.variables.proofs.plain.Setting.full.Goals as goal
-
-pub returns-then-value-sizes : goal.returns-then-value-sizes
-returns-then-value-sizes c = let v = c.loop-v.v in (c.loop-v.invariant.1, omega arith, omega (arith, size_slot c.args.sizes.now v), c.loop-v.invariant.2)
 
 pub loop-v-init : goal.loop-v-init
 loop-v-init c = (refl, omega arith, λ v h. absurd (omega arith), λ v. same_slots {X = ℕ} 32 v 0)
@@ -19,10 +16,3 @@ loop-v-preserved c =
       below_more _ _ c.loop-v.invariant.2 (rw (size_slot c.args.sizes.now v) (omega arith)),
       copied xs c.loop-v.slots v (omega arith) (omega (arith, length-take c.args.sizes.now.len c.args.sizes.now.sizes)) c.loop-v.invariant.3,
     )
-
-pub returns : goal.returns
-returns c =
-    let v = c.loop-v.v in
-    let xs = c.args.values.now in
-    let all = take_all v xs (omega arith) in
-    ((c.loop-v.invariant.1, λ u h. c.loop-v.invariant.2 u (omega arith)), λ u. c.loop-v.invariant.3 u ∙ ap (λ ys. get_or ys u 0) all)
