@@ -4,22 +4,23 @@ use Rattle.costs.specs.Structures.{Structure}
 use Rattle.variables.specs.Assignments.{Assignment, cell_from, cells}
 use Rattle.variables.specs.Records.{scope_of}
 use Rattle.variables.specs.Rules.{proper}
-use Rattle.problems.specs.declared.plain.FunctionRecord.{FunctionRecord}
-use Rattle.problems.specs.declared.plain.Functions.{Functions}
+use Rattle.lists.specs.declared.plain.ShortList.{ShortList}
+use Rattle.lists.specs.Lists.{items_of}
+use Rattle.problems.specs.declared.plain.TableRecord.{TableRecord}
 use Rattle.problems.specs.Problems.{Function}
 
--- what a function's record says: its scope, the bucket that it came from, and the cell at which its table starts
+-- what a record says: its scope, the bucket that it came from, and the cell at which its table starts
 pub record Placed : Type 0 where
   pub scope : List ℕ
   pub origin : ℕ
   pub start : ℕ
 
-abbrev pub placed_of : FunctionRecord → Placed
+abbrev pub placed_of : {END : ℕ} → TableRecord END → Placed
 placed_of r = record { scope = scope_of r.scope; origin = r.origin; start = r.start }
 
 -- the records in the order of their numbers
-abbrev pub placed : Functions → List Placed
-placed fs = map placed_of (take fs.len fs.records)
+abbrev pub placed : {END N : ℕ} → ShortList (TableRecord END) N → List Placed
+placed rs = map placed_of (items_of rs)
 
 -- an item of a list, if there is one at that place
 abbrev pub nth : {A : Type 0} → List A → ℕ → Option A

@@ -1,5 +1,5 @@
 // How a shape comes about: opened with sizes, functions entered one by one, then put in order.
-ghost use Rattle.std.specs.Prelude.{◌≡◌, ◌≤◌, [], length};
+ghost use Rattle.std.specs.Prelude.{◌≡◌, ◌≤◌, [], map, length};
 ghost use Rattle.problems.specs.Outlines.{outline, opened, entered, ordered, entering, amending, cell_of};
 ghost use Rattle.std.specs.Option.{option_map};
 ghost use Rattle.variables.specs.Records.{sizes_of};
@@ -8,6 +8,7 @@ ghost use Rattle.variables.specs.Refusals.{Answers, first_of};
 ghost use Rattle.variables.specs.Rules.{sizes_rows, order_rows};
 
 use crate::functions::{FunctionRecord, Functions};
+use crate::records::MOST_CELLS;
 use crate::shape::Shape;
 use variables::order::Order;
 use variables::refusal::Refusal;
@@ -16,8 +17,6 @@ use variables::sizes::Sizes;
 
 // The cells before the first table: the limit's and the best cost's.
 const FIRST_TABLE: usize = 2;
-// How many cells an area has at most.
-pub const MOST_CELLS: usize = 16384;
 
 impl Shape {
     // No variables and no functions.
@@ -41,7 +40,7 @@ impl Shape {
         Shape {
             sizes,
             order: Order::none(),
-            functions: Functions::none(),
+            functions: Functions::none(FunctionRecord::entered(Scope::none(), 0)),
             used: FIRST_TABLE,
         }
     }
@@ -56,7 +55,9 @@ impl Shape {
         let scope = Scope::of(scope, &shape.sizes)?;
         let number = shape.functions.len();
         let mut functions = shape.functions;
-        functions.push(FunctionRecord::entered(scope, shape.used))?;
+        let Ok(()) = functions.push(FunctionRecord::entered(scope, shape.used)) else {
+            return Err(Refusal::Functions);
+        };
         let end = shape.used + scope.table_cells(&shape.sizes);
         if end > room.min(MOST_CELLS) {
             return Err(Refusal::Room);
@@ -75,7 +76,7 @@ impl Shape {
         ensures { Answers (first_of (amending (outline self.now) function tuple.now)) result
             (λ k. k ≡ cell_of (outline self.now) function tuple.now) (Unit {0}) }
     {
-        let Some(record) = self.functions.get(function) else {
+        let Some(record) = self.function(function) else {
             return Err(Refusal::Function);
         };
         let Some(setting) = record.scope.setting(tuple, &self.sizes) else {
@@ -120,11 +121,19 @@ impl Shape {
         self.functions.len()
     }
 
+    // The records of the functions in the order of their numbers.
+    pub fn functions(&self) -> &[FunctionRecord]
+        ensures all { map placed_of result.now ≡ (outline self.now).functions }
+        ensures few { length result.now ≤ 64 }
+    {
+        self.functions.as_slice()
+    }
+
     // The record of a function by its number.
     pub fn function(&self, number: usize) -> Option<FunctionRecord>
         ensures { option_map placed_of result ≡ nth (outline self.now).functions number }
     {
-        self.functions.get(number)
+        self.functions().get(number).copied()
     }
 
     // The cells up to the tables' end.

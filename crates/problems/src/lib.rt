@@ -5,4 +5,5 @@ mod costing;
 mod drafting;
 pub mod functions;
 pub mod plain;
+pub mod records;
 pub mod shape;

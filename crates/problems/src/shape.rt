@@ -4,8 +4,8 @@ ghost use Rattle.variables.specs.Records.{sizes_of, order_of};
 ghost use Rattle.problems.specs.Records.{placed, laid_from, all_proper};
 ghost use Rattle.variables.specs.Rules.{no_order_or};
 
-pub use crate::drafting::MOST_CELLS;
 use crate::functions::Functions;
+pub use crate::records::MOST_CELLS;
 use variables::order::Order;
 use variables::sizes::Sizes;
 

@@ -1,4 +1,6 @@
-use Rattle.std.proofs.Common.{length, ap, arith}
+use Rattle.std.proofs.Common.{◌≡◌, [], ◌∷◌, ◌++◌, map, length, ap, ◌∙◌, arith}
+use Rattle.std.proofs.lemmas.List.{map_push}
+use Rattle.lists.specs.Lists.{items_of}
 use Rattle.std.proofs.lemmas.Bool.{not-false}
 use Rattle.variables.specs.Records.{sizes_of}
 use Rattle.problems.specs.Records.{Placed, placed, placed_of}
@@ -12,7 +14,7 @@ invariant_of-self c =
     let sizes = sizes_of s.sizes in
     let fs = placed s.functions in
     let new : Placed = placed_of c.entered.result in
-    let all = c.in_ok-push.ensures.1 in
+    let all : placed c.push.new.self ≡ fs ++ new ∷ [] = ap (map placed_of) c.in-Ok.ensures.added ∙ map_push placed_of (items_of s.functions) c.entered.result in
     let scope = ap (λ (p : Placed). p.scope) c.entered.ensures in
     let start = ap (λ (p : Placed). p.start) c.entered.ensures in
     let ok = not-false _ (no_row _ _ c.in_ok-scope.ensures.0) in
