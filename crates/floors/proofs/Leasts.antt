@@ -93,23 +93,23 @@ module _ {C : Type 0} {K : Structure C} (L : Lawful K) (sizes given : List ℕ) 
     abbrev pub Onward : List ℕ → ℕ → Option C → ℕ → Type 0
     Onward rest v best k = onward L (λ c. cheapest K sizes given rest F (assign (of slots) v c)) (get_or sizes v 0) best k ≡ cheapest K sizes given vs F (of slots)
 
-    pub least_none : (r : C) → true ≡ eqb (length vs) 0 → r ≡ F (of slots) → r ≡ cheapest K sizes given vs F (of slots)
-    least_none r h is = is ∙ none vs (eqb-true (length vs) 0 (sym h))
+    pub least_none : (r : C) → length vs < 1 → r ≡ F (of slots) → r ≡ cheapest K sizes given vs F (of slots)
+    least_none r h is = is ∙ none vs (omega arith)
       where
         none : (us : List ℕ) → length us ≡ 0 → F (of slots) ≡ cheapest K sizes given us F (of slots)
         none [] e = refl
         none (u ∷ us) e = absurd (omega arith)
 
-    pub least_passed : (r : C) → false ≡ eqb (length vs) 0 → true ≡ has given (get_or vs 0 0) → r ≡ cheapest K sizes given (take (length vs - 1) (drop 1 vs)) F (of slots) → r ≡ cheapest K sizes given vs F (of slots)
+    pub least_passed : (r : C) → 1 ≤ length vs → true ≡ has given (get_or vs 0 0) → r ≡ cheapest K sizes given (take (length vs - 1) (drop 1 vs)) F (of slots) → r ≡ cheapest K sizes given vs F (of slots)
     least_passed r some t is =
-        is ∙ ap (λ us. cheapest K sizes given us F (of slots)) (tail_all vs) ∙ passed vs (of slots) (omega (arith, eqb-false (length vs) 0 (sym some))) t
+        is ∙ ap (λ us. cheapest K sizes given us F (of slots)) (tail_all vs) ∙ passed vs (of slots) some t
 
-    pub least_begun : false ≡ eqb (length vs) 0 → false ≡ has given (get_or vs 0 0) → Onward (take (length vs - 1) (drop 1 vs)) (get_or vs 0 0) None 0
+    pub least_begun : 1 ≤ length vs → false ≡ has given (get_or vs 0 0) → Onward (take (length vs - 1) (drop 1 vs)) (get_or vs 0 0) None 0
     least_begun some t =
         let v = get_or vs 0 0 in
         onward_first L (λ c. cheapest K sizes given (take (length vs - 1) (drop 1 vs)) F (assign (of slots) v c)) (get_or sizes v 0)
         ∙ ap (λ us. least_of K (map (λ c. cheapest K sizes given us F (assign (of slots) v c)) (values sizes v))) (tail_all vs)
-        ∙ chosen vs (of slots) (omega (arith, eqb-false (length vs) 0 (sym some))) t
+        ∙ chosen vs (of slots) some t
 
     pub least_again : (rest : List ℕ) (v : ℕ) (best : Option C) (k : ℕ) (slots' : List ℕ) (cost r : C) → k < get_or sizes v 0 → length sizes ≤ length slots → slots' ≡ set slots v k
         → cost ≡ cheapest K sizes given rest F (of slots') → r ≡ least_of K (listed best ++ cost ∷ []) → Onward rest v best k → Onward rest v (Some r) (k + 1)

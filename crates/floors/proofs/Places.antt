@@ -33,9 +33,10 @@ module _ (order scope vs : List ℕ) (e : vs ≡ scope) (i latest : ℕ) (before
   pub bucket_all : length vs ≤ i → latest ≡ bucket_of order scope
   bucket_all h = omega (arith, before, at_drop_all (bucket_of order) scope i (rw e at h))
 
--- one slot more is noted
-pub noted_more : (f : ℕ → ℕ) (xs : List ℕ) (i x : ℕ) → i < length xs → x ≡ f i → ((u : ℕ) → u < i → get_or xs u 0 ≡ f u) → (u : ℕ) → u < i + 1 → get_or (set xs i x) u 0 ≡ f u
-noted_more f xs i x h is before u l = elim (cases_eq u i) [
+-- one slot more is noted, of the first n
+pub noted_more : (f : ℕ → ℕ) (n : ℕ) (xs : List ℕ) (i x : ℕ) → i < length xs → x ≡ f i → ((u : ℕ) → u < n → u < i → get_or xs u 0 ≡ f u)
+    → (u : ℕ) → u < n → u < i + 1 → get_or (set xs i x) u 0 ≡ f u
+noted_more f n xs i x h is before u few l = elim (cases_eq u i) [
   | inl e ↦ rw (e, get_or-set_same xs i x 0 h) is
-  | inr n ↦ get_or-set_other xs i u x 0 n ∙ before u (omega arith)
+  | inr n ↦ get_or-set_other xs i u x 0 n ∙ before u few (omega arith)
 ]

@@ -4,7 +4,6 @@ use Rattle.costs.specs.Structures.{Structure}
 use Rattle.problems.specs.Records.{Placed, nth, held}
 use Rattle.variables.specs.Assignments.{Assignment}
 use Rattle.problems.specs.Outlines.{Outline}
-use Rattle.floors.specs.declared.plain.Buckets.{Buckets}
 use Rattle.floors.specs.declared.plain.Paid.{Paid}
 use Rattle.floors.specs.declared.plain.Places.{Places}
 use Rattle.floors.specs.declared.plain.Given.{Given}
@@ -20,8 +19,8 @@ bucket_in order None = 0
 bucket_in order (Some f) = bucket_of order f.scope
 
 -- each function's bucket is noted
-abbrev pub Noted : Buckets → Outline → Type 0
-Noted b o = (k : ℕ) → k < length o.functions → slice_index b.buckets k ≡ bucket_in o.order (nth o.functions k)
+abbrev pub Noted : {N : ℕ} → Places N → Outline → Type 0
+Noted b o = (k : ℕ) → k < length o.functions → slice_index b.places k ≡ bucket_in o.order (nth o.functions k)
 
 -- Paid suits every job, and has no cells
 abbrev pub paid_rules : {C : Type 0} → Structure C → Rules C Paid
@@ -33,7 +32,7 @@ paid_rules K = record {
 }
 
 -- each variable's place is noted
-abbrev pub PlacesNoted : Places → Outline → Type 0
+abbrev pub PlacesNoted : {N : ℕ} → Places N → Outline → Type 0
 PlacesNoted n o = (v : ℕ) → v < 32 → slice_index n.places v ≡ place_from 1 o.order v
 
 -- the variables that are given, going by the places noted

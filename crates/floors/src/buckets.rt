@@ -1,13 +1,12 @@
 // Where functions lie: the bucket of a function is the place of its latest variable along the order.
-ghost use Rattle.std.specs.Prelude.{◌≡◌, ℕ, slice_index};
-ghost use Rattle.problems.specs.Outlines.{outline};
+ghost use Rattle.std.specs.Prelude.{◌≡◌, ℕ, ◌<◌, map, length, slice_index};
 ghost use Rattle.variables.specs.Records.{order_of, scope_of};
-ghost use Rattle.problems.specs.Records.{nth};
+ghost use Rattle.problems.specs.Records.{nth, placed_of};
 ghost use Rattle.floors.specs.ByNumber.{place_from, bucket_of};
-ghost use Rattle.floors.specs.Sources.{bucket_in, Noted};
+ghost use Rattle.floors.specs.Sources.{bucket_in};
 
-use crate::plain::Buckets;
-use problems::shape::Shape;
+use crate::plain::Places;
+use problems::records::TableRecord;
 use variables::order::Order;
 use variables::scope::Scope;
 
@@ -15,12 +14,10 @@ use variables::scope::Scope;
 pub fn place(order: &Order, variable: u8) -> u8
     ensures { result ≡ place_from 1 (order_of order.now) variable }
 {
-    let mut at = 1u8;
-    for v in order.variables() {
+    for (k, v) in order.variables().iter().enumerate() {
         if *v == variable {
-            return at;
+            return (k + 1) as u8;
         }
-        at += 1;
     }
     0
 }
@@ -36,32 +33,31 @@ pub fn bucket(order: &Order, scope: &Scope) -> u8
     latest
 }
 
-impl Buckets {
-    pub(crate) fn none() -> Buckets
-        ensures { (k : ℕ) → slice_index result.buckets k ≡ 0 }
+impl<const N: usize> Places<N> {
+    pub fn none() -> Places<N>
+        ensures { (k : ℕ) → slice_index result.places k ≡ 0 }
     {
-        Buckets { buckets: [0; 64] }
+        Places { places: [0; N] }
     }
 
-    // The buckets of a job's functions.
-    pub(crate) fn of(shape: &Shape) -> Buckets
-        ensures { Noted result (outline shape.now) }
+    // The buckets of records.
+    pub fn of_records<const END: usize>(order: &Order, records: &[TableRecord<END>]) -> Places<N>
+        ensures { (k : ℕ) → k < N → k < length records.now → slice_index result.places k ≡ bucket_in (order_of order.entry.now) (nth (map placed_of records.entry.now) k) }
     {
-        let order = shape.order();
-        let mut buckets = [0; 64];
-        for k in 0..shape.function_count() {
-            buckets[k] = bucket_at(shape, &order, k);
+        let mut places = [0; N];
+        for (k, record) in records.iter().enumerate() {
+            if k < N {
+                places[k] = bucket(order, &record.scope());
+            }
         }
-        Buckets { buckets }
+        Places { places }
     }
-}
 
-// The bucket of function k, 0 where there is none.
-fn bucket_at(shape: &Shape, order: &Order, k: usize) -> u8
-    ensures { result ≡ bucket_in (order_of order.now) (nth (outline shape.now).functions k) }
-{
-    match shape.function(k) {
-        Some(function) => bucket(order, &function.scope()),
-        None => 0,
+    // The places by number.
+    pub fn as_slice(&self) -> &[u8]
+        ensures places { result.now ≡ self.now.places }
+        ensures long { length result.now ≡ N }
+    {
+        &self.places
     }
 }

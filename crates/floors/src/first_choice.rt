@@ -6,7 +6,7 @@ ghost use Rattle.variables.specs.Records.{sizes_of, values_of};
 ghost use Rattle.problems.specs.Records.{placed_of, nth, held};
 ghost use Rattle.floors.specs.Leasts.{least_of};
 ghost use Rattle.floors.specs.Floors.{cheapest, first_choice_floor};
-ghost use Rattle.floors.specs.Sources.{first_choice_rules, given_of, least_held_by, listed};
+ghost use Rattle.floors.specs.Sources.{first_choice_rules, given_of, least_held, listed};
 ghost use Rattle.floors.specs.Shapes.{shaped};
 ghost use Rattle.floors.specs.Climbs.{admissible};
 ghost use Rattle.floors.specs.Admissions.{first_choice_climbs};
@@ -45,18 +45,16 @@ impl Given {
         ensures { result ≡ cheapest C.Cost.structure (sizes_of sizes.now) (given_of self.now) variables.now
             (λ a. held C.Cost.structure (sizes_of sizes.now) area.now a (placed_of function.now)) (of (values_of setting)) }
     {
-        if variables.is_empty() {
+        let [variable, rest @ ..] = variables else {
             return function.cost(sizes, &setting, area);
-        }
-        let variable = variables[0];
-        let rest = &variables[1..];
-        if self.has(variable) {
+        };
+        if self.has(*variable) {
             return self.least(function, rest, sizes, setting, area);
         }
         let mut least = None;
-        for value in 0..sizes.size(variable) {
+        for value in 0..sizes.size(*variable) {
             let mut choice = setting;
-            choice.give(variable, value);
+            choice.give(*variable, value);
             let cost = self.least(function, rest, sizes, choice, area);
             least = Some(lesser(least, cost));
         }
@@ -64,17 +62,18 @@ impl Given {
     }
 }
 
-// The least cost of function k that agrees with the variables given, neutral for a number that none has.
-fn choice<C: Cost>(shape: &Shape, k: usize, given: &Given, setting: Setting, area: &[C]) -> C
-    ensures { result ≡ least_held_by C.Cost.structure (outline shape.now).sizes area.now (given_of given.now) (of (values_of setting)) (nth (outline shape.now).functions k) }
+// The least cost of a function that agrees with the variables given.
+fn choice<C: Cost>(
+    function: &FunctionRecord,
+    given: &Given,
+    sizes: &Sizes,
+    setting: Setting,
+    area: &[C],
+) -> C
+    ensures { result ≡ least_held C.Cost.structure (sizes_of sizes.now) area.now (given_of given.now) (of (values_of setting)) (placed_of function.now) }
 {
-    match shape.function(k) {
-        Some(function) => {
-            let scope = function.scope();
-            given.least(&function, scope.variables(), &shape.sizes(), setting, area)
-        }
-        None => C::neutral(),
-    }
+    let scope = function.scope();
+    given.least(function, scope.variables(), sizes, setting, area)
 }
 
 // The lesser of a cost and the least before it, if there is one.
@@ -107,7 +106,7 @@ impl<C: Cost> FloorSource<C> for FirstChoice {
 
     fn fill(&mut self, shape: &Shape, _area: &mut [C], _at: usize) {
         *self = FirstChoice {
-            places: Places::of(shape),
+            places: Places::of_variables(&shape.order()),
         };
     }
 
@@ -116,9 +115,10 @@ impl<C: Cost> FloorSource<C> for FirstChoice {
             places: self.places,
             len: prefix.len(),
         };
+        let sizes = shape.sizes();
         let mut sum = C::neutral();
-        for k in 0..shape.function_count() {
-            sum = sum.combine(choice(shape, k, &given, prefix.setting(), area));
+        for function in shape.functions() {
+            sum = sum.combine(choice(function, &given, &sizes, prefix.setting(), area));
         }
         sum
     }

@@ -1,30 +1,24 @@
 // Which variables a prefix gives, by their places along the order.
-ghost use Rattle.std.specs.Prelude.{◌≡◌, ℕ, slice_index};
+ghost use Rattle.std.specs.Prelude.{◌≡◌, ℕ, ◌<◌, slice_index};
 ghost use Rattle.variables.specs.Lists.{has};
-ghost use Rattle.problems.specs.Outlines.{outline};
-ghost use Rattle.floors.specs.Sources.{PlacesNoted, given_of};
+ghost use Rattle.variables.specs.Records.{order_of};
+ghost use Rattle.floors.specs.ByNumber.{place_from};
+ghost use Rattle.floors.specs.Sources.{given_of};
 
 use crate::buckets::place;
 use crate::plain::{Given, Places};
-use problems::shape::Shape;
+use std::array;
+use variables::order::Order;
+use variables::sizes::MOST_VARIABLES;
 
-impl Places {
-    pub(crate) fn none() -> Places
-        ensures { (v : ℕ) → slice_index result.places v ≡ 0 }
+impl Places<MOST_VARIABLES> {
+    // The places of variables.
+    pub(crate) fn of_variables(order: &Order) -> Places<MOST_VARIABLES>
+        ensures { (v : ℕ) → v < 32 → slice_index result.places v ≡ place_from 1 (order_of order.now) v }
     {
-        Places { places: [0; 32] }
-    }
-
-    // The places of a job's variables.
-    pub(crate) fn of(shape: &Shape) -> Places
-        ensures { PlacesNoted result (outline shape.now) }
-    {
-        let order = shape.order();
-        let mut places = [0; 32];
-        for v in 0..32u8 {
-            places[v as usize] = place(&order, v);
+        Places {
+            places: array::from_fn(|v| place(order, v as u8)),
         }
-        Places { places }
     }
 }
 

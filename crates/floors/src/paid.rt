@@ -7,8 +7,8 @@ ghost use Rattle.floors.specs.Shapes.{shaped};
 ghost use Rattle.floors.specs.Climbs.{admissible};
 ghost use Rattle.floors.specs.Admissions.{paid_climbs};
 
-use crate::plain::Buckets;
 pub use crate::plain::Paid;
+use crate::plain::Places;
 use crate::source::FloorSource;
 use costs::Cost;
 use problems::shape::Shape;
@@ -17,10 +17,10 @@ use variables::prefix::Prefix;
 impl Paid {
     // Nothing is noted of a job yet.
     pub fn new() -> Paid
-        ensures { (k : ℕ) → slice_index result.buckets.buckets k ≡ 0 }
+        ensures { (k : ℕ) → slice_index result.buckets.places k ≡ 0 }
     {
         Paid {
-            buckets: Buckets::none(),
+            buckets: Places::none(),
         }
     }
 }
@@ -43,16 +43,16 @@ impl<C: Cost> FloorSource<C> for Paid {
 
     fn fill(&mut self, shape: &Shape, _area: &mut [C], _at: usize) {
         *self = Paid {
-            buckets: Buckets::of(shape),
+            buckets: Places::of_records(&shape.order(), shape.functions()),
         };
     }
 
     fn floor(&self, shape: &Shape, prefix: &Prefix, area: &[C], _at: usize) -> C {
-        let setting = prefix.values();
+        let sizes = shape.sizes();
         let mut sum = C::neutral();
-        for k in 0..shape.function_count() {
-            if self.buckets.buckets[k] as usize <= prefix.len() {
-                sum = sum.combine(shape.function_cost(k, setting, area));
+        for (k, function) in shape.functions().iter().enumerate() {
+            if self.buckets.places[k] as usize <= prefix.len() {
+                sum = sum.combine(function.cost(&sizes, prefix.values(), area));
             }
         }
         sum

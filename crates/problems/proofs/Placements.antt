@@ -1,5 +1,5 @@
 -- Lists of function records.
-use Rattle.std.proofs.Common.{◌≡◌, ℕ, zero, suc, ◌+◌, ◌<◌, ◌≤◌, true, List, [], ◌∷◌, ◌++◌, map, length, get_or, take, set, Some, None, refl, ap, ◌∙◌, arith}
+use Rattle.std.proofs.Common.{◌≡◌, ℕ, zero, suc, ◌+◌, ◌<◌, ◌≤◌, true, List, [], ◌∷◌, ◌++◌, map, length, get_or, take, set, Some, None, sym, refl, ap, ◌∙◌, arith}
 use Rattle.std.proofs.lemmas.List.{length-map, length-take-le, take_more_set, map_push, get_or-take, get_or-map}
 use Rattle.std.proofs.lemmas.Bool.Decides.{nat_tests}
 use Rattle.variables.specs.Assignments.{cells}
@@ -53,3 +53,10 @@ used_item h f n xs room k l d e =
     let long = used_length f n xs room in
     get_or-map h (map f (take n xs)) k (f d) e (omega arith)
     ∙ ap h (get_or-map f (take n xs) k d (f d) (omega (arith, length-take-le n xs room)) ∙ ap f (get_or-take n xs k d l))
+
+-- an item of a slice that is seen through a map
+pub mapped_length : {A B : Type 0} (f : A → B) (xs : List A) (ys : List B) → map f xs ≡ ys → length ys ≡ length xs
+mapped_length f xs ys e = ap length (sym e) ∙ length-map xs f
+
+pub mapped_nth : {A B : Type 0} (f : A → B) (xs : List A) (ys : List B) → map f xs ≡ ys → (k : ℕ) (x : A) → k < length xs → x ≡ get_or xs k x → nth ys k ≡ Some (f x)
+mapped_nth {A} {B} f xs ys e k x h is = ap (λ (zs : List B). nth zs k) (sym e) ∙ nth_map f xs k x h ∙ ap (λ (y : A). Some (f y)) (sym is)

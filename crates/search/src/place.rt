@@ -23,8 +23,7 @@ impl Place {
         Place {
             prefix: Prefix::empty(),
             next: 0,
-            found: false,
-            incumbent: Setting::empty(),
+            incumbent: None,
         }
     }
 
@@ -46,11 +45,7 @@ impl Place {
     pub fn incumbent(&self) -> Option<Setting>
         ensures { (order : OrderRecord) → option_map (λ s. map (of (values_of s)) (order_of order)) result ≡ (spot_of order self.now).incumbent }
     {
-        if self.found {
-            Some(self.incumbent)
-        } else {
-            None
-        }
+        self.incumbent
     }
 
     // The last value is given up for the one after it; where a variable's values are used up, back to the variable before it.

@@ -60,8 +60,7 @@ impl<C: Cost> Search<C> {
     {
         let cost = shape.cost(self.place.prefix.values(), area);
         if cost.is_cheaper(self.bar) {
-            self.place.found = true;
-            self.place.incumbent = self.place.prefix.setting();
+            self.place.incumbent = Some(self.place.prefix.setting());
             self.bar = cost;
         }
     }

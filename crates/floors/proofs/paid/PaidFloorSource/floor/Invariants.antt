@@ -10,6 +10,6 @@ use Rattle.floors.proofs.paid.PaidFloorSource.floor.Given as goal
 -- the functions still to come lead on to all that count
 abbrev pub invariant-loop-k : goal.invariant-loop-k
 invariant-loop-k g l =
-    rest g.C.Cost.structure (outline l.shape).sizes l.area (of (values_of l.prefix.setting)) l.self.buckets.buckets l.prefix.len (outline l.shape).functions l.sum l.k
+    rest g.C.Cost.structure (outline l.shape).sizes l.area (of (values_of l.prefix.setting)) l.self.buckets.places l.prefix.len (outline l.shape).functions l.sum l.k
     ≡ folded g.C.Cost.structure g.C.Cost.structure.neutral
-    (map (held g.C.Cost.structure (outline l.shape).sizes l.area (of (values_of l.prefix.setting))) (picked l.self.buckets.buckets l.prefix.len 0 (outline l.shape).functions))
+    (map (held g.C.Cost.structure (outline l.shape).sizes l.area (of (values_of l.prefix.setting))) (picked l.self.buckets.places l.prefix.len 0 (outline l.shape).functions))

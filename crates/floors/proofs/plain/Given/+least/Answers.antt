@@ -7,24 +7,24 @@ use Rattle.floors.specs.Sources.{given_of}
 use Rattle.floors.proofs.Leasts.{least_none, least_passed, least_begun, least_again, least_ended}
 use Rattle.floors.proofs.plain.Given.+least.Goals as goal
 
-pub returns-then-is_empty : goal.returns-then-is_empty
-returns-then-is_empty g t c =
+pub returns-in_default : goal.returns-in_default
+returns-in_default g t c =
     let sizes = sizes_of c.args.sizes.now in
     let F : Assignment → g.row.C.Denot = λ a. held g.C.Cost.structure sizes c.args.area.now a (placed_of c.args.function.now) in
-    least_none g.met.C.Cost.lawful sizes (given_of c.args.self.now) F c.args.variables.now (values_of c.args.setting) c.cost.result c.if-is_empty.ensures c.cost.ensures
+    least_none g.met.C.Cost.lawful sizes (given_of c.args.self.now) F c.args.variables.now (values_of c.args.setting) c.cost.result c.in_default.len_below c.cost.ensures
 
 pub returns-then-has : goal.returns-then-has
 returns-then-has g t c =
     let sizes = sizes_of c.args.sizes.now in
     let F : Assignment → g.row.C.Denot = λ a. held g.C.Cost.structure sizes c.args.area.now a (placed_of c.args.function.now) in
-    least_passed g.met.C.Cost.lawful sizes (given_of c.args.self.now) F c.args.variables.now (values_of c.args.setting) c.least.result c.if-is_empty.ensures c.if-has.ensures
+    least_passed g.met.C.Cost.lawful sizes (given_of c.args.self.now) F c.args.variables.now (values_of c.args.setting) c.least.result c.in-len1-up.len_at_least c.if-has.ensures
     c.least.ensures
 
 pub loop-value-init : goal.loop-value-init
 loop-value-init g t c =
     let sizes = sizes_of c.args.sizes.now in
     let F : Assignment → g.row.C.Denot = λ a. held g.C.Cost.structure sizes c.args.area.now a (placed_of c.args.function.now) in
-    least_begun g.met.C.Cost.lawful sizes (given_of c.args.self.now) F c.args.variables.now (values_of c.args.setting) c.if-is_empty.ensures c.if-has.ensures
+    least_begun g.met.C.Cost.lawful sizes (given_of c.args.self.now) F c.args.variables.now (values_of c.args.setting) c.in-len1-up.len_at_least c.if-has.ensures
 
 pub loop-value-preserved : goal.loop-value-preserved
 loop-value-preserved g t c =
