@@ -115,10 +115,9 @@ impl<C: Cost> FloorSource<C> for FirstChoice {
             places: self.places,
             len: prefix.len(),
         };
-        let sizes = shape.sizes();
         let mut sum = C::neutral();
         for function in shape.functions() {
-            sum = sum.combine(choice(function, &given, &sizes, prefix.setting(), area));
+            sum = sum.combine(choice(function, &given, shape.domains(), prefix.setting(), area));
         }
         sum
     }

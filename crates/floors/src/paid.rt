@@ -48,11 +48,10 @@ impl<C: Cost> FloorSource<C> for Paid {
     }
 
     fn floor(&self, shape: &Shape, prefix: &Prefix, area: &[C], _at: usize) -> C {
-        let sizes = shape.sizes();
         let mut sum = C::neutral();
         for (k, function) in shape.functions().iter().enumerate() {
             if self.buckets.places[k] as usize <= prefix.len() {
-                sum = sum.combine(function.cost(&sizes, prefix.values(), area));
+                sum = sum.combine(function.cost(shape.domains(), prefix.values(), area));
             }
         }
         sum

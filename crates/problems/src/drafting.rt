@@ -114,6 +114,20 @@ impl Shape {
         self.order
     }
 
+    // The sizes, not copied.
+    pub fn domains(&self) -> &Sizes
+        ensures { result.now ≡ self.now.sizes }
+    {
+        &self.sizes
+    }
+
+    // The order, not copied.
+    pub fn along(&self) -> &Order
+        ensures { result.now ≡ self.now.order }
+    {
+        &self.order
+    }
+
     pub fn function_count(&self) -> usize
         ensures count { result ≡ length (outline self.now).functions }
         ensures few { result ≤ 64 }

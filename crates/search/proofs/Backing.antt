@@ -69,7 +69,7 @@ module _ (o : Order) (s : Sizes) (b : Prefix) (first : ℕ) (p : Prefix) (next :
 
 -- the last value given up, and then backed up
 pub backs : (o : Order) (s : Sizes) (b : Place) (a p : Prefix) (value first next : ℕ) → Shorter o b.prefix a value → first ≡ min (value + 1) 255 → Settles o s a first p next
-    → Backs o s b (record { prefix = p; next = next; found = b.found; incumbent = b.incumbent })
+    → Backs o s b (record { prefix = p; next = next; incumbent = b.incumbent })
 backs o s b a p value first next shorter e settles last path is usable low =
     let sizes = sizes_of s in
     let order = order_of o in

@@ -50,7 +50,7 @@ module _ (sh : Shape) (b : Place) (tried : Prefix) (longer : Longer sh.order b.p
   pub now : Ready (sizes_of sh.sizes) (order_of sh.order) (spot_of sh.order b)
   now = ready (sizes_of sh.sizes) (order_of sh.order) (spot_of sh.order b) st goes
 
-  pub stays_deeper : (tried.len ≡ length (order_of sh.order) → ⊥) → Steady sh (record { prefix = tried; next = 0; found = b.found; incumbent = b.incumbent })
+  pub stays_deeper : (tried.len ≡ length (order_of sh.order) → ⊥) → Steady sh (record { prefix = tried; next = 0; incumbent = b.incumbent })
   stays_deeper partial = deeper_steady sh b tried longer now (spot_of sh.order b).incumbent partial
 
   -- backed up from a place with the prefix that was tried
@@ -69,13 +69,13 @@ module _ {C : Type 0} (K : Structure C) (sh : Shape) (area : List C) (b : Bounde
     (st : Steady sh b.place) (goes : Goes sh b.place) where
   -- with the prefix that is tried
   abbrev pub trying : Bounded C
-  trying = record { place = record { prefix = tried; next = b.place.next; found = b.place.found; incumbent = b.place.incumbent }; bar = b.bar }
+  trying = record { place = record { prefix = tried; next = b.place.next; incumbent = b.place.incumbent }; bar = b.bar }
 
   abbrev cells : C
   cells = total K (map (held K (sizes_of sh.sizes) area (of (values_of tried.setting))) (outline sh).functions)
 
   abbrev best : Place
-  best = record { prefix = tried; next = b.place.next; found = true; incumbent = tried.setting }
+  best = record { prefix = tried; next = b.place.next; incumbent = Some tried.setting }
 
   pub stays_noted : (a : Place) → Backs sh.order sh.sizes (noted K (outline sh) area trying).place a → Steady sh a
   stays_noted a =
@@ -109,7 +109,7 @@ module _ {C : Type 0} (K : Structure C) (sh : Shape) (area : List C) (b : Bounde
           leads ∙ cond-false (eqb (length y) (length p.order)) _ _ (ne_eqb (length y) (length p.order) (λ e. partial (sym y_length ∙ e)))
 
       pub visits_deeper : cheaper K (floor y) b.bar ≡ true
-          → visited K p floor before ≡ search_of sh.order (record { place = record { prefix = tried; next = 0; found = b.place.found; incumbent = b.place.incumbent }; bar = b.bar })
+          → visited K p floor before ≡ search_of sh.order (record { place = record { prefix = tried; next = 0; incumbent = b.place.incumbent }; bar = b.bar })
       visits_deeper e =
           by_floor ∙ cond-true (cheaper K (floor y) b.bar) _ _ e
           ∙ ap (λ xs. record { spot = record { path = xs; next = 0; incumbent = before.spot.incumbent }; bar = b.bar }) (sym (path_longer sh.order b.place.prefix tried b.place.next longer))

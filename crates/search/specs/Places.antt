@@ -1,5 +1,6 @@
 -- What the search's records say.
 use Rattle.std.specs.Prelude.{◌≡◌, ℕ, suc, ◌≤◌, Bool, true, false, cond, List, ◌∷◌, map, reverse, length, Some, None, Option}
+use Rattle.std.specs.Option.{option_map}
 use Rattle.costs.specs.Structures.{Structure, cheaper, total}
 use Rattle.variables.specs.declared.plain.Order.{Order}
 use Rattle.variables.specs.declared.plain.Sizes.{Sizes}
@@ -19,7 +20,7 @@ abbrev pub spot_of : Order → Place → Spot
 spot_of order place = record {
   path = reverse (prefix_of order place.prefix);
   next = place.next;
-  incumbent = cond place.found (Some (map (of (values_of place.incumbent)) (order_of order))) None;
+  incumbent = option_map (λ s. map (of (values_of s)) (order_of order)) place.incumbent;
 }
 
 abbrev pub search_of : {C : Type 0} → Order → Bounded C → Search C
@@ -42,7 +43,7 @@ abbrev pub noted : {C : Type 0} → Structure C → Outline → List C → Bound
 noted {C} K o area s =
     let cost : C = total K (map (held K o.sizes area (of (values_of s.place.prefix.setting))) o.functions) in
     cond (cheaper K cost s.bar)
-    (record { place = record { prefix = s.place.prefix; next = s.place.next; found = true; incumbent = s.place.prefix.setting }; bar = cost })
+    (record { place = record { prefix = s.place.prefix; next = s.place.next; incumbent = Some s.place.prefix.setting }; bar = cost })
     s
 
 module _ {C S : Type 0} (R : Rules C S) where

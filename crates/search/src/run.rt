@@ -25,13 +25,11 @@ impl<C: Cost> Search<C> {
         ensures stays { steady (outline shape.now).sizes (outline shape.now).order (spot_of shape.now.order self.old.place) ≡ true
             → steady (outline shape.now).sizes (outline shape.now).order (spot_of shape.now.order self.new.place) ≡ true }
     {
-        let order = shape.order();
-        let sizes = shape.sizes();
         for visits in 0..budget {
-            if self.place.ended_along(&order, &sizes) {
+            if self.place.ended(shape) {
                 return visits;
             }
-            self.visit(shape, &order, &sizes, source, area, at);
+            self.visit(shape, source, area, at);
         }
         budget
     }

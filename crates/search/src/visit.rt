@@ -9,22 +9,16 @@ use crate::plain::Search;
 use costs::Cost;
 use floors::source::FloorSource;
 use problems::shape::Shape;
-use variables::order::Order;
-use variables::sizes::Sizes;
 
 impl<C: Cost> Search<C> {
-    // Tries the next value. The order and the sizes are the shape's own, taken out of it once for many visits.
+    // Tries the next value.
     pub(crate) fn visit<S: FloorSource<C>>(
         &mut self,
         shape: &Shape,
-        order: &Order,
-        sizes: &Sizes,
         source: &S,
         area: &[C],
         at: usize,
     )
-        requires ordered { order.now ≡ shape.now.order }
-        requires sized { sizes.now ≡ shape.now.sizes }
         ensures visits { Visits S.FloorSource.rules C.Cost.structure (outline shape.now) source.now area.now at
             (search_of shape.now.order self.old) (search_of shape.now.order self.new) }
         ensures stays { steady (outline shape.now).sizes (outline shape.now).order (spot_of shape.now.order self.old.place) ≡ true
@@ -32,16 +26,16 @@ impl<C: Cost> Search<C> {
             → steady (outline shape.now).sizes (outline shape.now).order (spot_of shape.now.order self.new.place) ≡ true }
     {
         let next = self.place.next;
-        if !self.place.prefix.push(order, next) {
+        if !self.place.prefix.push(shape.along(), next) {
             return;
         }
-        if self.place.prefix.len() == order.variables().len() {
+        if self.place.prefix.len() == shape.along().variables().len() {
             self.note(shape, area);
         } else if self.promises(shape, source, area, at) {
             self.place.next = 0;
             return;
         }
-        self.place.back(order, sizes);
+        self.place.back(shape);
     }
 
     // Whether the floor of the prefix is cheaper than the bar.

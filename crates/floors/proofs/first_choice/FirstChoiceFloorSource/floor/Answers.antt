@@ -29,7 +29,7 @@ loop-function-preserved g c =
     let k = c.loop-function.function-index in
     let here : c.choice.result ≡ least_held_by K o.sizes area (given_of known) a (nth o.functions k) =
     c.choice.ensures
-    ∙ ap₂ (λ (z : Sizes) (s : Setting). least_held K (sizes_of z) area (given_of known) (of (values_of s)) (placed_of c.function-item.result)) c.sizes-sizes.ensures c.setting.ensures
+    ∙ ap₂ (λ (z : Sizes) (s : Setting). least_held K (sizes_of z) area (given_of known) (of (values_of s)) (placed_of c.function-item.result)) c.domains.ensures c.setting.ensures
     ∙ sym (ap (least_held_by K o.sizes area (given_of known) a) (mapped_nth placed_of c.functions-function-items.result.now o.functions c.functions-function-items.ensures.all k c.function-item.result c.loop-function-test.true c.function-item.is)) in
     let long = mapped_length placed_of c.functions-function-items.result.now o.functions c.functions-function-items.ensures.all in
     ap (λ (sum : g.row.C.Denot). rest K o.sizes area (given_of known) a o.functions sum (k + 1)) c.combine-sum.ensures

@@ -31,7 +31,7 @@ loop-k-preserved g c =
       | then-self-k w ↦
           let here : w.cost.result ≡ held_by K o.sizes area a (nth o.functions k) =
           w.cost.ensures
-          ∙ ap₂ (λ (z : Sizes) (s : Setting). held K (sizes_of z) area (of (values_of s)) (placed_of c.function-item.result)) c.sizes-sizes.ensures w.values.ensures
+          ∙ ap₂ (λ (z : Sizes) (s : Setting). held K (sizes_of z) area (of (values_of s)) (placed_of c.function-item.result)) w.domains.ensures w.values.ensures
           ∙ sym (ap (held_by K o.sizes area a) (mapped_nth placed_of c.functions-function-items.result.now o.functions c.functions-function-items.ensures.all k c.function-item.result c.loop-k-test.true c.function-item.is)) in
           ap (λ (sum : g.row.C.Denot). rest K o.sizes area a bs n o.functions sum (k + 1)) (w.sum-is ∙ w.combine-sum.ensures)
           ∙ picks K o.sizes area a bs n o.functions c.loop-k.sum w.cost.result k _ (omega arith) (omega (arith, w.if-self-k.true)) here c.loop-k.invariant

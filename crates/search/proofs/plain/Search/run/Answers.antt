@@ -8,15 +8,14 @@ use Rattle.search.specs.Places.{spot_of, search_of}
 use Rattle.search.proofs.Turns.{again, stopped, spent}
 use Rattle.search.proofs.plain.Search.run.Goals as goal
 
-pub returns-then-ended_along : goal.returns-then-ended_along
-returns-then-ended_along g c =
+pub returns-then-ended : goal.returns-then-ended
+returns-then-ended g c =
     let K = g.C.Cost.structure in
     let sh = c.args.shape.now in
     let p = problem (outline sh) c.args.area.now in
     let floor = g.S.FloorSource.rules.meaning c.args.source.now p in
     let s = c.loop-visits.self in
-    let ends : ended (sizes_of sh.sizes) (order_of sh.order) (spot_of sh.order s.place) ≡ true =
-    sym (c.if-ended_along.ensures ∙ ap₂ (λ (l : Sizes) (o : Order). ended (sizes_of l) (order_of o) (spot_of o s.place)) c.sizes-sizes.ensures c.order-order.ensures) in
+    let ends : ended (sizes_of sh.sizes) (order_of sh.order) (spot_of sh.order s.place) ≡ true = sym c.if-ended.ensures in
     record {
       few = c.loop-visits.auto.visits-end;
       runs = λ filled formed st.
@@ -32,8 +31,7 @@ loop-visits-preserved g c =
     let p = problem (outline sh) c.args.area.now in
     let floor = g.S.FloorSource.rules.meaning c.args.source.now p in
     let s = c.loop-visits.self in
-    let goes : ended (sizes_of sh.sizes) (order_of sh.order) (spot_of sh.order s.place) ≡ false =
-    sym (c.if-ended_along.ensures ∙ ap₂ (λ (l : Sizes) (o : Order). ended (sizes_of l) (order_of o) (spot_of o s.place)) c.sizes-sizes.ensures c.order-order.ensures) in (
+    let goes : ended (sizes_of sh.sizes) (order_of sh.order) (spot_of sh.order s.place) ≡ false = sym c.if-ended.ensures in (
       λ st. c.visit.ensures.stays (c.loop-visits.invariant.0 st) goes,
       λ filled formed st.
           again K p floor (ran K p floor c.args.budget (search_of sh.order c.args.self.now)) c.args.budget c.loop-visits.visits (search_of sh.order s)

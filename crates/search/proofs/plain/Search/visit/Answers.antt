@@ -14,7 +14,7 @@ pub returns-then-not-push : goal.returns-then-not-push
 returns-then-not-push g c =
     let sh = c.args.shape.now in
     let b = c.args.self.now.place in
-    let none = subst (λ (o : Order). false ≡ ltb b.prefix.len (length (order_of o))) c.requires.ordered c.if-not-push.ensures.more in
+    let none = subst (λ (o : Order). false ≡ ltb b.prefix.len (length (order_of o))) c.along.ensures c.if-not-push.ensures.more in
     record {
       visits = λ filled formed st goes. absurd (not_full sh b none st goes);
       stays = λ st goes. absurd (not_full sh b none st goes);
@@ -28,8 +28,8 @@ returns-then-promises g c =
     let area = c.args.area.now in
     let p = problem (outline sh) area in
     let tried = c.push.new.self in
-    let longer = subst (λ (o : Order). Longer o b.place.prefix tried b.place.next) c.requires.ordered c.if-not-push.ensures.after in
-    let partial : tried.len ≡ length (order_of sh.order) → ⊥ = λ e. c.if-len-variables.false (c.len.ensures ∙ e ∙ sym (ap length (c.variables.ensures ∙ ap order_of c.requires.ordered))) in
+    let longer = subst (λ (o : Order). Longer o b.place.prefix tried b.place.next) c.along.ensures c.if-not-push.ensures.after in
+    let partial : tried.len ≡ length (order_of sh.order) → ⊥ = λ e. c.if-len-variables.false (c.len.ensures ∙ e ∙ sym (ap length (c.variables.ensures ∙ ap order_of c.along-2.ensures))) in
     record {
       visits = λ filled formed st goes.
           let ready = now sh b.place tried longer st goes in
@@ -48,11 +48,10 @@ returns g c =
     let floor = g.S.FloorSource.rules.meaning c.args.source.now p in
     let tried = c.push.new.self in
     let a = c.back.new.self in
-    let longer = subst (λ (o : Order). Longer o b.place.prefix tried b.place.next) c.requires.ordered c.if-not-push.ensures.after in
+    let longer = subst (λ (o : Order). Longer o b.place.prefix tried b.place.next) c.along.ensures c.if-not-push.ensures.after in
     let backs : Backs sh.order sh.sizes c.if-len-variables.self.place a =
-    subst (λ (o : Order). Backs o sh.sizes c.if-len-variables.self.place a) c.requires.ordered
-    (subst (λ (s : Sizes). Backs c.args.order.now s c.if-len-variables.self.place a) c.requires.sized c.back.ensures) in
-    let long = ap length (c.variables.ensures ∙ ap order_of c.requires.ordered) in
+    c.back.ensures in
+    let long = ap length (c.variables.ensures ∙ ap order_of c.along-2.ensures) in
     elim c.if-len-variables.branch [
       | then-len-variables w ↦
           let note = w.self-is ∙ w.note.ensures in
