@@ -1,7 +1,7 @@
 -- A loop over the records that a prefix reaches comes to the mini-bucket floor.
 use Rattle.std.proofs.Common.{◌≡◌, ℕ, zero, suc, ◌+◌, ◌-◌, ◌<◌, ◌≤◌, true, leb, List, [], ◌∷◌, ◌++◌, map, length, get_or, take, Option, sym, ap, ◌∙◌, subst, ap₂, arith}
 use Rattle.std.specs.List.{AllByRecursion}
-use Rattle.std.proofs.lemmas.List.{length-map, length-append, map-append, take-map, take-take, length-take-le}
+use Rattle.std.proofs.lemmas.List.{length-map, length-append, map-append, take-map, length-take-le}
 use Rattle.costs.specs.Structures.{Structure, Lawful, total}
 use Rattle.costs.proofs.Totals.{folded, folded_total}
 use Rattle.variables.specs.Lists.{has}
@@ -20,7 +20,7 @@ use Rattle.floors.specs.Eliminations.{messages_within}
 use Rattle.floors.proofs.Pickings.{picked, noted_picked}
 use Rattle.floors.proofs.Paids.{given, given_length, kept_along}
 use Rattle.buckets.specs.declared.plain.MiniBucket.{MiniBucket}
-use Rattle.buckets.specs.Listed.{listed, tabled}
+use Rattle.buckets.specs.Listed.{listed}
 use Rattle.buckets.specs.Made.{bucket_made, scopes_made, placed_made}
 use Rattle.buckets.specs.Processed.{scopes_of}
 use Rattle.buckets.specs.Sources.{Kept}
@@ -66,7 +66,7 @@ module _ {C : Type 0} (K : Structure C) (L : Lawful K) (o : Outline) (area : Lis
 
   -- the records that the loop goes through
   abbrev pub reached : List Placed
-  reached = map tabled (take (get_or s.made.reach n 0) s.made.records.records)
+  reached = take (get_or s.made.reach n 0) (listed s.made.records)
 
   reach_is : reach ≡ length o.functions + length (Placeds k)
   reach_is = notes.reach n le ∙ ap (λ m. length o.functions + m) (sym (placed_length o.sizes o.order w (scopes_of o.functions) at k))
@@ -74,7 +74,7 @@ module _ {C : Type 0} (K : Structure C) (L : Lawful K) (o : Outline) (area : Lis
   front : take (length (Placeds k)) (Placeds N) ≡ Placeds k
   front = placed_front o.sizes o.order w (scopes_of o.functions) at k N (omega arith)
 
-  inside : reach ≤ s.made.records.len
+  inside : reach ≤ s.made.records.list.len
   inside =
       let long : length (listed s.made.records) ≡ length o.functions + length (Placeds N) = ap length notes.records ∙ length-append o.functions (Placeds N) in
       let less : length (Placeds k) ≤ length (Placeds N) = less_than (Placeds k) (Placeds N) front in
@@ -85,13 +85,9 @@ module _ {C : Type 0} (K : Structure C) (L : Lawful K) (o : Outline) (area : Lis
       less_than (x ∷ xs) [] e = absurd (omega (arith, ap length e))
       less_than (x ∷ xs) (y ∷ ys) e = let tail : take (length xs) ys ≡ xs = cc in omega (arith, less_than xs ys tail)
 
-  from_listed : reached ≡ take reach (listed s.made.records)
-  from_listed =
-      sym (take-map tabled reach (take s.made.records.len s.made.records.records) ∙ ap (map tabled) (take-take reach s.made.records.len s.made.records.records inside))
-
   reached_is : reached ≡ o.functions ++ Placeds k
   reached_is =
-      from_listed ∙ ap₂ (λ (m : ℕ) (l : List Placed). take m l) reach_is notes.records ∙ take_past o.functions (Placeds N) (length (Placeds k)) ∙ ap (λ (l : List Placed). o.functions ++ l) front
+      ap₂ (λ (m : ℕ) (l : List Placed). take m l) reach_is notes.records ∙ take_past o.functions (Placeds N) (length (Placeds k)) ∙ ap (λ (l : List Placed). o.functions ++ l) front
 
   made_length : length (Placeds k) ≡ length (bucket_made K o.sizes o.order w FS k)
   made_length =
@@ -106,22 +102,22 @@ module _ {C : Type 0} (K : Structure C) (L : Lawful K) (o : Outline) (area : Lis
       (ap (map (function_in o.sizes area)) (sym front) ∙ sym (take-map (function_in o.sizes area) (length (Placeds k)) (Placeds N))
       ∙ ap₂ (λ (m : ℕ) (l : List (Function C)). take m l) made_length notes.tables ∙ made_front L o.sizes o.order w FS k N (omega arith))
 
-  noted : (j : ℕ) → j < length reached → get_or s.lying.buckets j 0 ≡ bucket_in o.order (nth reached j)
+  noted : (j : ℕ) → j < length reached → get_or s.lying.places j 0 ≡ bucket_in o.order (nth reached j)
   noted j h =
       let r = s.made.records in
-      let few : length reached ≡ reach = length-map (take reach r.records) tabled ∙ length-take-le reach r.records (omega (arith, s.made.capped n, r.long)) in
+      let few : length reached ≡ reach = length-take-le reach (listed r) (omega (arith, inside, listed_length r)) in
       notes.buckets j (omega (arith, listed_length r, inside))
-      ∙ ap (λ (f : Option Placed). bucket_in o.order f) (sym (ap (λ (l : List Placed). nth l j) from_listed ∙ nth_take reach (listed r) j (omega arith)))
+      ∙ ap (λ (f : Option Placed). bucket_in o.order f) (sym (nth_take reach (listed r) j (omega arith)))
 
-  pub mini_told : folded K K.neutral (map (held K o.sizes area (of values)) (picked s.lying.buckets n 0 reached)) ≡ mini_bucket_floor K w (problem o area) (given K L o area formed values n le)
+  pub mini_told : folded K K.neutral (map (held K o.sizes area (of values)) (picked s.lying.places n 0 reached)) ≡ mini_bucket_floor K w (problem o area) (given K L o area formed values n le)
   mini_told =
       let p = problem o area in
       let x = given K L o area formed values n le in
       let within : Within (λ v. has o.order v ≡ true) (map (function_in o.sizes area) reached) =
       subst (Within (λ v. has o.order v ≡ true)) (sym functions_are) (within_append (λ v. has o.order v ≡ true) FS (bucket_made K o.sizes o.order w FS k) (covered p (shaped p formed)) (made_within L o.sizes o.order w FS k)) in
       let long : length x ≡ n = given_length K L o area formed values n le in
-      folded_total K L (map (held K o.sizes area (of values)) (picked s.lying.buckets n 0 reached))
-      ∙ ap (λ (fs : List Placed). total K (map (held K o.sizes area (of values)) fs)) (noted_picked o.order s.lying.buckets n reached noted)
+      folded_total K L (map (held K o.sizes area (of values)) (picked s.lying.places n 0 reached))
+      ∙ ap (λ (fs : List Placed). total K (map (held K o.sizes area (of values)) fs)) (noted_picked o.order s.lying.places n reached noted)
       ∙ kept_along K L o area formed values n le fits reached within
       ∙ ap (λ (l : List (Function C)). costs_at K o.sizes (along o.order x) (kept (λ (f : Function C). leb (bucket_of o.order f.scope) n) l)) functions_are
       ∙ ap (λ m. costs_at K o.sizes (along o.order x) (kept (λ (f : Function C). leb (bucket_of o.order f.scope) m) (FS ++ bucket_made K o.sizes o.order w FS (N - m)))) (sym long)

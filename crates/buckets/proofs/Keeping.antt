@@ -35,7 +35,7 @@ module _ (shape : Shape) (w : ℕ) (narrow : w ≤ 6) where
     ordered = shape.ordered;
     narrow = narrow;
     scoped = shape.scoped;
-    count = omega (arith, used_length placed_of shape.functions.len shape.functions.records (omega (arith, shape.functions.long, shape.functions.few)), shape.functions.few);
+    count = omega (arith, used_length placed_of shape.functions.len shape.functions.slots (omega (arith, shape.functions.long, shape.functions.few)), shape.functions.few);
   }
 
   pub functions_below : (at : ℕ) → o.used ≤ at → Below o.sizes at o.functions

@@ -1,27 +1,44 @@
 -- Lists of records, and loops over them.
-use Rattle.std.proofs.Common.{◌≡◌, ℕ, zero, suc, ◌+◌, ◌<◌, ◌≤◌, Bool, true, false, cond, ◌&&◌, ◌||◌, eqb, leb, List, [], ◌∷◌, ◌++◌, length, get_or, take, drop, set, Some, sym, refl, ap, ◌∙◌, inl, inr, add-one, arith}
-use Rattle.std.proofs.lemmas.List.{append_assoc, append-nil, drop_more, at_drop_more, at_drop_all, get_or-map, get_or-take, length-take-le, get_or-set_same, get_or-set_other, length-set}
-use Rattle.std.proofs.lemmas.Bool.{cases_eq, eq-eqb, ne_eqb}
+use Rattle.std.proofs.Common.{◌≡◌, ℕ, zero, suc, ◌+◌, ◌-◌, ◌<◌, ◌≤◌, min, Bool, true, false, cond, ◌&&◌, ◌||◌, eqb, leb, List, [], ◌∷◌, ◌++◌, map, length, get_or, take, drop, set, Some, sym, refl, ap, ◌∙◌, inl, inr, add-one, arith}
+use Rattle.std.proofs.lemmas.List.{drop_all, take_all, length-drop, drop-map, append_assoc, append-nil, drop_more, at_drop_more, at_drop_all, get_or-map, get_or-set_same, get_or-set_other, length-set}
+use Rattle.std.proofs.lemmas.Bool.{cases_eq, cases_lt, eq-eqb, ne_eqb}
 use Rattle.variables.specs.Lists.{has}
-use Rattle.problems.specs.Records.{Placed, nth}
-use Rattle.problems.proofs.Placements.{used_length}
+use Rattle.std.specs.List.{list_all}
+use Rattle.variables.specs.Records.{scope_of}
+use Rattle.problems.specs.declared.plain.TableRecord.{TableRecord}
+use Rattle.problems.specs.Records.{Placed, nth, placed_of}
+use Rattle.problems.proofs.Placements.{used_length, mapped_length}
 use Rattle.floors.specs.Settings.{kept}
-use Rattle.buckets.specs.declared.plain.TableRecord.{TableRecord}
 use Rattle.buckets.specs.declared.plain.Records.{Records}
 use Rattle.buckets.specs.Listed.{listed, tabled}
 use Rattle.buckets.specs.Processed.{scopes_of}
 use Rattle.buckets.specs.Sources.{short}
 
-pub listed_length : (r : Records) → length (listed r) ≡ r.len
-listed_length r = used_length tabled r.len r.records (omega arith)
+pub listed_length : (r : Records) → length (listed r) ≡ r.list.len
+listed_length r = used_length tabled r.list.len r.list.slots (omega (arith, r.list.few, r.list.long))
 
--- what the rest of a list of records begins with
-pub listed_drop : (r : Records) (k : ℕ) (d : TableRecord) → k < r.len → drop k (listed r) ≡ tabled (get_or r.records k d) ∷ drop (k + 1) (listed r)
-listed_drop r k d h =
-    let p : Placed = tabled d in
-    drop_more (listed r) k p (omega (arith, listed_length r))
-    ∙ ap (λ (x : Placed). x ∷ drop (k + 1) (listed r))
-    (get_or-map tabled (take r.len r.records) k d p (omega (arith, length-take-le r.len r.records (omega arith))) ∙ ap tabled (get_or-take r.len r.records k d h))
+-- what the rest of a list begins with, whose items a slice shows through a map
+pub mapped_drop : {A B : Type 0} (f : A → B) (xs : List A) (ys : List B) → map f xs ≡ ys → (k : ℕ) (x : A) → k < length xs → x ≡ get_or xs k x → drop k ys ≡ f x ∷ drop (k + 1) ys
+mapped_drop {A} {B} f xs ys e k x h is =
+    drop_more ys k (f x) (omega (arith, mapped_length f xs ys e))
+    ∙ ap (λ (y : B). y ∷ drop (k + 1) ys) (ap (λ (zs : List B). get_or zs k (f x)) (sym e) ∙ get_or-map f xs k x (f x) h ∙ ap f (sym is))
+
+drop_least : {A : Type 0} (ys : List A) (n m : ℕ) → m ≡ min n (length ys) → drop m ys ≡ drop n ys
+drop_least ys n m e = elim (cases_lt n (length ys)) [
+  | inl l ↦ let same : m ≡ n = omega arith in ap (λ k. drop k ys) same
+  | inr l ↦ drop_all m ys (omega arith) ∙ sym (drop_all n ys l)
+]
+
+-- what a slice shows from a place on, which may be past its end
+pub mapped_rest : {A B : Type 0} (f : A → B) (xs : List A) (ys : List B) → map f xs ≡ ys → (n m : ℕ) → m ≡ min n (length xs) → map f (take (length xs - m) (drop m xs)) ≡ drop n ys
+mapped_rest {A} {B} f xs ys e n m least =
+    ap (map f) (take_all (length xs - m) (drop m xs) (omega (arith, length-drop m xs)))
+    ∙ sym (drop-map f m xs) ∙ ap (drop m) e ∙ drop_least ys n m (least ∙ ap (min n) (sym (mapped_length f xs ys e)))
+
+-- no scope is longer, record by record
+pub short_all : {END : ℕ} (w : ℕ) (rs : List (TableRecord END)) → short w (scopes_of (map (placed_of {END = END}) rs)) ≡ list_all (λ r. leb (length (scope_of r.scope)) w) rs
+short_all w [] = refl
+short_all {END} w (r ∷ rs) = ap (λ b. leb (length (scope_of r.scope)) w && b) (short_all {END = END} w rs)
 
 -- a filter in a loop: what was kept, and what will be
 module _ {A : Type 0} (p : A → Bool) (xs : List A) (i : ℕ) (x : A) (so_far whole : List A) (next : drop i xs ≡ x ∷ drop (i + 1) xs) (before : so_far ++ kept p (drop i xs) ≡ whole) where

@@ -16,7 +16,7 @@ each_low m [] h v k = grind arith
 each_low m (x ∷ xs) h v k = let ih = each_low m xs (λ p. h (suc p)) v in let here : x < m = h 0 in grind (arith, nat_tests)
 
 pub order_low : (o : Order) (v : ℕ) → has (order_of o) v ≡ true → v < 32
-order_low o v h = each_low 32 o.variables o.within v (take_has o.len o.variables v h)
+order_low o v h = each_low 32 (order_of o) o.within v h
 
 pub scope_low : (s : Scope) (v : ℕ) → has (scope_of s) v ≡ true → v < 32
 scope_low s v h = each_low 32 s.variables s.within v (take_has s.len s.variables v h)

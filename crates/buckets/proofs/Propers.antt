@@ -7,7 +7,7 @@ use Rattle.std.proofs.lemmas.Bool.{cond_both, cases_Bool, and_parts, and_from, n
 use Rattle.variables.specs.Lists.{has, known, distinct}
 use Rattle.variables.specs.Rules.{proper}
 use Rattle.problems.specs.Records.{Placed}
-use Rattle.buckets.specs.declared.plain.TableRecord.{TableRecord}
+use Rattle.problems.specs.declared.plain.TableRecord.{TableRecord}
 use Rattle.floors.specs.Settings.{kept}
 use Rattle.floors.specs.ByNumber.{bucket_of}
 use Rattle.floors.specs.Shapes.{Distinct}
@@ -40,9 +40,9 @@ distinct_kept p (x ∷ xs) h =
 
 -- records have at most five variables
 pub listed_few : (r : Records) → AllByRecursion (λ (f : Placed). length f.scope ≤ 5) (listed r)
-listed_few r = each (take r.len r.records)
+listed_few r = each (take r.list.len r.list.slots)
   where
-    each : (rs : List TableRecord) → AllByRecursion (λ (f : Placed). length f.scope ≤ 5) (map tabled rs)
+    each : (rs : List (TableRecord 18446744073709551615)) → AllByRecursion (λ (f : Placed). length f.scope ≤ 5) (map tabled rs)
     each [] = tt
     each (f ∷ rs) = (omega (arith, length-take f.scope.len f.scope.variables, f.scope.few), each rs)
 

@@ -9,8 +9,8 @@ use crate::message::others;
 use crate::parting::part;
 use crate::plain::{Plan, Records};
 use crate::table::write;
-use crate::table_record::TableRecord;
 use costs::Cost;
+use problems::records::MessageRecord;
 
 // Files the messages of the bucket of the p-th variable from 0, as if their tables stood nowhere, and answers their cells.
 pub(crate) fn count_bucket(plan: &Plan, records: &mut Records, p: usize) -> usize
@@ -24,10 +24,10 @@ pub(crate) fn count_bucket(plan: &Plan, records: &mut Records, p: usize) -> usiz
     let variable = plan.order.variables()[p];
     let mut waiting = records.lying(&plan.order, number);
     let mut cells = 0;
-    while waiting.len > 0 {
+    while waiting.len() > 0 {
         let parted = part(&waiting, &plan.order, plan.width);
         let scope = others(&plan.order, &plan.sizes, &parted.members, variable);
-        records.push(TableRecord::message(scope, number, 0));
+        records.push(MessageRecord::message(scope, number, 0));
         cells += scope.table_cells(&plan.sizes);
         waiting = parted.rest;
     }
@@ -50,11 +50,11 @@ pub(crate) fn fill_bucket<C: Cost>(
     let variable = plan.order.variables()[p];
     let mut waiting = records.lying(&plan.order, number);
     let mut at = end;
-    while waiting.len > 0 {
+    while waiting.len() > 0 {
         let parted = part(&waiting, &plan.order, plan.width);
         let scope = others(&plan.order, &plan.sizes, &parted.members, variable);
         write(&parted.members, &plan.sizes, &scope, variable, area, at);
-        records.push(TableRecord::message(scope, number, at));
+        records.push(MessageRecord::message(scope, number, at));
         at += scope.table_cells(&plan.sizes);
         waiting = parted.rest;
     }

@@ -10,4 +10,3 @@ pub mod plain;
 mod processing;
 mod records;
 mod table;
-pub mod table_record;

@@ -17,8 +17,8 @@ impl Records {
         ensures { (v : ℕ) → v < 32 → slice_index_or result.named v false ≡ names (listed self.now) v }
     {
         let mut named = Named::none();
-        for k in 0..self.len {
-            named.add(&self.records[k].scope());
+        for function in self.as_slice() {
+            named.add(&function.scope());
         }
         named
     }

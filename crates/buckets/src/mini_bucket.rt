@@ -1,17 +1,19 @@
 // Mini-bucket: the functions that lie in the prefix, combined with messages that stand for the others.
-ghost use Rattle.std.specs.Prelude.{◌≡◌, ℕ, [], length, slice_index};
+ghost use Rattle.std.specs.Prelude.{◌≡◌, ℕ, [], map, length, slice_index};
 ghost use Rattle.std.specs.Option.{option_map};
-ghost use Rattle.problems.specs.Records.{nth};
+ghost use Rattle.problems.specs.Records.{nth, placed_of};
 ghost use Rattle.buckets.specs.Listed.{listed, tabled};
 ghost use Rattle.buckets.specs.Made.{SameMessages};
 ghost use Rattle.buckets.specs.Sources.{mini_bucket_rules, messages};
 ghost use Rattle.buckets.specs.Sounds.{mini_bucket_sound};
 
 pub use crate::plain::MiniBucket;
-use crate::plain::{Lying, Made, Plan, Records, TableRecord};
+use crate::plain::{Made, Plan, Records};
 use crate::processing::{count, make, suits};
 use costs::Cost;
+use floors::plain::Places;
 use floors::source::FloorSource;
+use problems::records::MessageRecord;
 use problems::shape::Shape;
 use variables::prefix::Prefix;
 
@@ -22,7 +24,7 @@ impl MiniBucket {
         ensures entered { result.entered ≡ 0 }
         ensures records { listed result.made.records ≡ [] }
         ensures reach { (p : ℕ) → slice_index result.made.reach p ≡ 0 }
-        ensures buckets { (k : ℕ) → slice_index result.lying.buckets k ≡ 0 }
+        ensures buckets { (k : ℕ) → slice_index result.lying.places k ≡ 0 }
     {
         MiniBucket {
             width,
@@ -31,7 +33,7 @@ impl MiniBucket {
                 records: Records::none(),
                 reach: [0; 33],
             },
-            lying: Lying::none(),
+            lying: Places::none(),
         }
     }
 
@@ -42,22 +44,27 @@ impl MiniBucket {
         self.width
     }
 
+    // The messages that are kept, in the order made.
+    pub fn messages(&self) -> &[MessageRecord]
+        ensures { map placed_of result.now ≡ messages self.now }
+    {
+        let records = self.made.records.as_slice();
+        let entered = self.entered.min(records.len());
+        &records[entered..]
+    }
+
     // How many messages are kept.
     pub fn message_count(&self) -> usize
         ensures { result ≡ length (messages self.now) }
     {
-        self.made.records.len.saturating_sub(self.entered)
+        self.messages().len()
     }
 
     // A message by its number, in the order made.
-    pub fn message(&self, number: usize) -> Option<TableRecord>
+    pub fn message(&self, number: usize) -> Option<MessageRecord>
         ensures { option_map tabled result ≡ nth (messages self.now) number }
     {
-        if number < self.message_count() {
-            Some(self.made.records.records[self.entered + number])
-        } else {
-            None
-        }
+        self.messages().get(number).copied()
     }
 }
 
@@ -105,20 +112,20 @@ impl<C: Cost> FloorSource<C> for MiniBucket {
         let made = make(&plan, &functions, area, at);
         *self = MiniBucket {
             width,
-            entered: functions.len,
+            entered: functions.len(),
             made,
-            lying: Lying::of(&made.records, &plan.order),
+            lying: Places::of_records(&plan.order, made.records.as_slice()),
         };
     }
 
     fn floor(&self, shape: &Shape, prefix: &Prefix, area: &[C], _at: usize) -> C {
-        let sizes = shape.sizes();
-        let setting = prefix.setting();
         let len = prefix.len();
+        let records = &self.made.records.as_slice()[..self.made.reach[len]];
+        let buckets = self.lying.as_slice();
         let mut sum = C::neutral();
-        for k in 0..self.made.reach[len] {
-            if self.lying.buckets[k] as usize <= len {
-                sum = sum.combine(self.made.records.records[k].cost(&sizes, &setting, area));
+        for (k, record) in records.iter().enumerate() {
+            if buckets[k] as usize <= len {
+                sum = sum.combine(record.cost(shape.domains(), prefix.values(), area));
             }
         }
         sum

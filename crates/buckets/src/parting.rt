@@ -13,7 +13,7 @@ fn may_join(order: &Order, width: u8, members: &Records, named: &Named, scope: &
     requires { (v : ℕ) → v < 32 → slice_index_or named.now.named v false ≡ names (listed members.now) v }
     ensures { result ≡ joins (order_of order.now) width (listed members.now) (scope_of scope.now) }
 {
-    if members.len == 0 {
+    if members.len() == 0 {
         return true;
     }
     let mut both = *named;
@@ -29,14 +29,13 @@ pub(crate) fn part(waiting: &Records, order: &Order, width: u8) -> Parted
     let mut members = Records::none();
     let mut rest = Records::none();
     let mut named = Named::none();
-    for k in 0..waiting.len {
-        let function = waiting.records[k];
+    for function in waiting.as_slice() {
         let scope = function.scope();
         if may_join(order, width, &members, &named, &scope) {
             named.add(&scope);
-            members.push(function);
+            members.push(*function);
         } else {
-            rest.push(function);
+            rest.push(*function);
         }
     }
     Parted { members, rest }

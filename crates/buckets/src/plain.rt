@@ -1,25 +1,20 @@
 // What the mini-bucket source is made of. The functions of these records stand in the files of their names.
 ghost use Rattle.std.specs.Prelude.{◌≡◌, ℕ, ◌≤◌, length, slice_index};
+ghost use Rattle.lists.specs.Lists.{items_of};
 
+use floors::plain::Places;
+use lists::ShortList;
+use problems::records::MessageRecord;
 use variables::order::Order;
-use variables::scope::Scope;
 use variables::sizes::Sizes;
 
-// A function or a message: its scope, the bucket that it came from, and the cell at which its table starts, in an area of any length.
-#[derive(Clone, Copy)]
-pub struct TableRecord {
-    pub(crate) scope: Scope,
-    pub(crate) origin: u8,
-    pub(crate) start: usize,
-}
+// How many records there are at most: 64 functions and 320 messages.
+pub const MOST_RECORDS: usize = 384;
 
-// Records one after the other: 64 functions and 320 messages at most.
+// Records one after the other.
 #[derive(Clone, Copy)]
 pub struct Records {
-    pub(crate) records: [TableRecord; 384],
-    pub(crate) len: usize,
-    ghost long: { length records ≡ 384 },
-    ghost few: { len ≤ 384 },
+    pub(crate) list: ShortList<MessageRecord, MOST_RECORDS>,
 }
 
 // Which variables are named, by their numbers.
@@ -50,14 +45,7 @@ pub struct Made {
     pub(crate) records: Records,
     pub(crate) reach: [usize; 33],
     ghost long: { length reach ≡ 33 },
-    ghost capped: { (p : ℕ) → slice_index reach p ≤ 384 },
-}
-
-// The bucket of each record.
-#[derive(Clone, Copy)]
-pub struct Lying {
-    pub(crate) buckets: [u8; 384],
-    ghost long: { length buckets ≡ 384 },
+    ghost capped: { (p : ℕ) → slice_index reach p ≤ length (items_of records.list) },
 }
 
 // Floors from mini-buckets of at most `width` variables. It keeps its records once it has been filled.
@@ -66,5 +54,5 @@ pub struct MiniBucket {
     pub(crate) width: u8,
     pub(crate) entered: usize,
     pub(crate) made: Made,
-    pub(crate) lying: Lying,
+    pub(crate) lying: Places<MOST_RECORDS>,
 }

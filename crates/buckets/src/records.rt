@@ -1,17 +1,20 @@
 // Records one after the other: functions that wait, that share a mini-bucket, or all there are.
-ghost use Rattle.std.specs.Prelude.{◌≡◌, ◌<◌, [], ◌∷◌, ◌++◌, map, length};
+ghost use Rattle.std.specs.Prelude.{◌≡◌, ◌<◌, ◌≤◌, [], ◌∷◌, ◌++◌, map, length};
 ghost use Rattle.costs.specs.Structures.{total};
 ghost use Rattle.problems.specs.Outlines.{outline};
 ghost use Rattle.variables.specs.Assignments.{of};
 ghost use Rattle.variables.specs.Records.{sizes_of, values_of, order_of};
-ghost use Rattle.problems.specs.Records.{held};
+ghost use Rattle.problems.specs.Records.{held, placed_of};
 ghost use Rattle.floors.specs.Settings.{kept};
 ghost use Rattle.buckets.specs.Listed.{listed, tabled};
 ghost use Rattle.buckets.specs.Joining.{lies_at};
 
-use crate::plain::{Records, TableRecord};
+use crate::plain::Records;
 use costs::Cost;
 use floors::buckets::bucket;
+use lists::ShortList;
+use problems::costing::combined_cost;
+use problems::records::MessageRecord;
 use problems::shape::Shape;
 use variables::order::Order;
 use variables::scope::Scope;
@@ -22,21 +25,32 @@ impl Records {
     pub(crate) fn none() -> Records
         ensures { listed result ≡ [] }
     {
-        let blank = TableRecord::message(Scope::none(), 0, 0);
         Records {
-            records: [blank; 384],
-            len: 0,
+            list: ShortList::none(MessageRecord::message(Scope::none(), 0, 0)),
         }
     }
 
+    pub(crate) fn len(&self) -> usize
+        ensures count { result ≡ length (listed self.now) }
+        ensures few { result ≤ 384 }
+    {
+        self.list.len()
+    }
+
+    // The records in their order.
+    pub(crate) fn as_slice(&self) -> &[MessageRecord]
+        ensures records { map placed_of result.now ≡ listed self.now }
+        ensures few { length result.now ≤ 384 }
+    {
+        self.list.as_slice()
+    }
+
     // One record more.
-    pub(crate) fn push(&mut self, function: TableRecord)
+    pub(crate) fn push(&mut self, function: MessageRecord)
         requires { length (listed self.old) < 384 }
         ensures { listed self.new ≡ listed self.old ++ tabled function ∷ [] }
     {
-        let len = self.len;
-        self.records[len] = function;
-        self.len = len + 1;
+        let _ = self.list.push(function);
     }
 
     // The functions of a job.
@@ -44,10 +58,8 @@ impl Records {
         ensures { listed result ≡ (outline shape.now).functions }
     {
         let mut records = Records::none();
-        for k in 0..shape.function_count() {
-            if let Some(function) = shape.function(k) {
-                records.push(TableRecord::entered(&function));
-            }
+        for function in shape.functions() {
+            records.push(MessageRecord::from(*function));
         }
         records
     }
@@ -57,10 +69,9 @@ impl Records {
         ensures { listed result ≡ kept (lies_at (order_of order.now) number) (listed self.now) }
     {
         let mut lying = Records::none();
-        for k in 0..self.len {
-            let function = self.records[k];
+        for function in self.as_slice() {
             if bucket(order, &function.scope()) == number {
-                lying.push(function);
+                lying.push(*function);
             }
         }
         lying
@@ -70,11 +81,6 @@ impl Records {
     pub(crate) fn cost<C: Cost>(&self, sizes: &Sizes, setting: &Setting, area: &[C]) -> C
         ensures { result ≡ total C.Cost.structure (map (held C.Cost.structure (sizes_of sizes.now) area.now (of (values_of setting.now))) (listed self.now)) }
     {
-        let mut sum = C::neutral();
-        for k in 0..self.len {
-            let function = self.records[k];
-            sum = sum.combine(function.cost(sizes, setting, area));
-        }
-        sum
+        combined_cost(self.as_slice(), sizes, setting, area)
     }
 }

@@ -1,7 +1,7 @@
 // Problems as plain records: function records over variables, a job's shape, and what a setting costs.
 #![tactic(auto)]
 
-mod costing;
+pub mod costing;
 mod drafting;
 pub mod functions;
 pub mod plain;

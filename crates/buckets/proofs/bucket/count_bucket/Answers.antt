@@ -13,10 +13,10 @@ use Rattle.buckets.proofs.Coming.{proper_next, passed_less, counting_begins, cou
 use Rattle.buckets.proofs.bucket.count_bucket.Goals as goal
 
 pub overflow_add-number : goal.overflow_add-number
-overflow_add-number c = let o = c.args.plan.now.order in Fits-below {n = 255} tt (omega (arith, c.requires.number, length-take o.len o.variables, o.few))
+overflow_add-number c = let o = c.args.plan.now.order in Fits-below {n = 255} tt (omega (arith, c.requires.number, o.variables.few, length-take o.variables.len o.variables.slots))
 
 pub overflow_cast-number : goal.overflow_cast-number
-overflow_cast-number c = let o = c.args.plan.now.order in Fits-below {n = 255} tt (omega (arith, c.requires.number, length-take o.len o.variables, o.few))
+overflow_cast-number c = let o = c.args.plan.now.order in Fits-below {n = 255} tt (omega (arith, c.requires.number, o.variables.few, length-take o.variables.len o.variables.slots))
 
 pub loop-waiting-init : goal.loop-waiting-init
 loop-waiting-init c =
@@ -31,17 +31,17 @@ others-scope-requires c =
     subst (λ v. proper (length (sizes_of plan.sizes)) (kept (λ u. not (eqb u v)) (kept (names (listed c.part-parted.result.members)) order)) ≡ true)
     (sym (ap (λ (l : List ℕ). get_or l c.args.p 0) c.variables.ensures))
     (subst (λ (ms : List Placed). proper (length (sizes_of plan.sizes)) (kept (λ u. not (eqb u (get_or order c.args.p 0))) (kept (names ms) order)) ≡ true) (sym c.part-parted.ensures.members)
-    (proper_next (sizes_of plan.sizes) order plan.width c.args.p (listed c.args.records.now) c.requires (listed ws) (omega (arith, listed_length ws, c.loop-waiting-test.true)) (listed_few ws) c.loop-waiting.invariant.lies))
+    (proper_next (sizes_of plan.sizes) order plan.width c.args.p (listed c.args.records.now) c.requires (listed ws) (omega (arith, c.len.ensures.count, c.loop-waiting-test.true)) (listed_few ws) c.loop-waiting.invariant.lies))
 
 pub push-requires : goal.push-requires
 push-requires c =
     let plan = c.args.plan.now in
     let ws = c.loop-waiting.waiting in
     counting_slot (sizes_of plan.sizes) (order_of plan.order) plan.width c.args.p (listed c.args.records.now) (listed c.loop-waiting.records) (listed ws) c.loop-waiting.cells c.loop-waiting.invariant
-    (omega (arith, listed_length ws, c.loop-waiting-test.true)) c.requires
+    (omega (arith, c.len.ensures.count, c.loop-waiting-test.true)) c.requires
 
 pub overflow_add-cells : goal.overflow_add-cells
-overflow_add-cells c = Fits-below {n = 4294967295} tt (omega (arith, c.loop-waiting.invariant.small, listed_length c.loop-waiting.records, c.loop-waiting.records.few, c.table_cells-cells.ensures.few))
+overflow_add-cells c = Fits-below {n = 4294967295} tt (omega (arith, c.loop-waiting.invariant.small, listed_length c.loop-waiting.records, c.loop-waiting.records.list.few, c.table_cells-cells.ensures.few))
 
 pub loop-waiting-preserved : goal.loop-waiting-preserved
 loop-waiting-preserved c =
@@ -51,7 +51,7 @@ loop-waiting-preserved c =
     let var = ap (λ (l : List ℕ). get_or l c.args.p 0) c.variables.ensures in
     let scope = c.others-scope.ensures ∙ ap₂ (λ v (ms : List Placed). kept (λ u. not (eqb u v)) (kept (names ms) order)) var c.part-parted.ensures.members in
     counting_goes (sizes_of plan.sizes) order plan.width c.args.p (listed c.args.records.now) (listed c.loop-waiting.records) (listed ws) c.loop-waiting.cells c.loop-waiting.invariant
-    (omega (arith, listed_length ws, c.loop-waiting-test.true)) _ _ (scope_of c.others-scope.result) _ scope
+    (omega (arith, c.len.ensures.count, c.loop-waiting-test.true)) _ _ (scope_of c.others-scope.result) _ scope
     (c.push.ensures ∙ ap (λ (f : Placed). listed c.loop-waiting.records ++ f ∷ []) c.message.ensures) c.part-parted.ensures.rest
     (ap (λ n. c.loop-waiting.cells + n) c.table_cells-cells.ensures.count) (omega (arith, c.table_cells-cells.ensures.few, c.table_cells-cells.ensures.count))
 
@@ -59,7 +59,7 @@ pub loop-waiting-smaller : goal.loop-waiting-smaller
 loop-waiting-smaller c =
     let plan = c.args.plan.now in
     let ws = c.loop-waiting.waiting in
-    omega (arith, passed_less (order_of plan.order) plan.width (listed ws) (omega (arith, listed_length ws, c.loop-waiting-test.true)), listed_length ws, listed_length c.part-parted.result.rest, ap length c.part-parted.ensures.rest)
+    omega (arith, passed_less (order_of plan.order) plan.width (listed ws) (omega (arith, c.len.ensures.count, c.loop-waiting-test.true)), listed_length ws, listed_length c.part-parted.result.rest, ap length c.part-parted.ensures.rest)
 
 pub returns : goal.returns
 returns c =
@@ -67,4 +67,4 @@ returns c =
     let ws = c.loop-waiting.waiting in
     let both = counting_ends (sizes_of plan.sizes) (order_of plan.order) plan.width c.args.p (listed c.args.records.now) (listed c.loop-waiting.records) (listed ws) c.loop-waiting.cells c.loop-waiting.invariant
     (omega (arith, listed_length ws, c.loop-waiting-test.false)) in
-    record { records = both.0; cells = both.1; few = omega (arith, c.loop-waiting.invariant.small, listed_length c.loop-waiting.records, c.loop-waiting.records.few) }
+    record { records = both.0; cells = both.1; few = omega (arith, c.loop-waiting.invariant.small, listed_length c.loop-waiting.records, c.loop-waiting.records.list.few) }

@@ -18,10 +18,10 @@ use Rattle.buckets.proofs.Making.{making_begins, making_slot, making_room, makin
 use Rattle.buckets.proofs.bucket.fill_bucket.Goals as goal
 
 pub overflow_add-number : goal.overflow_add-number
-overflow_add-number g c = let o = c.args.plan.now.order in Fits-below {n = 255} tt (omega (arith, c.requires.ready.number, length-take o.len o.variables, o.few))
+overflow_add-number g c = let o = c.args.plan.now.order in Fits-below {n = 255} tt (omega (arith, c.requires.ready.number, o.variables.few, length-take o.variables.len o.variables.slots))
 
 pub overflow_cast-number : goal.overflow_cast-number
-overflow_cast-number g c = let o = c.args.plan.now.order in Fits-below {n = 255} tt (omega (arith, c.requires.ready.number, length-take o.len o.variables, o.few))
+overflow_cast-number g c = let o = c.args.plan.now.order in Fits-below {n = 255} tt (omega (arith, c.requires.ready.number, o.variables.few, length-take o.variables.len o.variables.slots))
 
 pub loop-waiting-init : goal.loop-waiting-init
 loop-waiting-init g c =
@@ -36,7 +36,7 @@ others-scope-requires g c =
     subst (λ v. proper (length (sizes_of plan.sizes)) (kept (λ u. not (eqb u v)) (kept (names (listed c.part-parted.result.members)) order)) ≡ true)
     (sym (ap (λ (l : List ℕ). get_or l c.args.p 0) c.variables.ensures))
     (subst (λ (ms : List Placed). proper (length (sizes_of plan.sizes)) (kept (λ u. not (eqb u (get_or order c.args.p 0))) (kept (names ms) order)) ≡ true) (sym c.part-parted.ensures.members)
-    (proper_next (sizes_of plan.sizes) order plan.width c.args.p (listed c.args.records.now) c.requires.ready (listed ws) (omega (arith, listed_length ws, c.loop-waiting-test.true)) (listed_few ws) c.loop-waiting.invariant.lies))
+    (proper_next (sizes_of plan.sizes) order plan.width c.args.p (listed c.args.records.now) c.requires.ready (listed ws) (omega (arith, c.len.ensures.count, c.loop-waiting-test.true)) (listed_few ws) c.loop-waiting.invariant.lies))
 
 pub write-requires : goal.write-requires
 write-requires g c =
@@ -49,7 +49,7 @@ write-requires g c =
     let var = ap (λ (x : List ℕ). get_or x c.args.p 0) c.variables.ensures in
     let ms = c.part-parted.ensures.members in
     let scope = c.others-scope.ensures ∙ ap₂ (λ v (m : List Placed). kept (λ u. not (eqb u v)) (kept (names m) order)) var ms in
-    let some : 0 < length (listed ws) = omega (arith, listed_length ws, c.loop-waiting-test.true) in
+    let some : 0 < length (listed ws) = omega (arith, c.len.ensures.count, c.loop-waiting-test.true) in
     record {
       there = omega (arith, making_room K sizes order plan.width c.args.p (listed c.args.records.now) c.args.area.now c.args.end c.requires.roomy (listed l.records) (listed ws) l.area l.at l.invariant some, ap (cells sizes) scope);
       some = omega (arith, order_sized plan.sizes order c.args.p c.requires.ready.ordered c.requires.ready.number, ap (λ v. get_or sizes v 0) var);
@@ -62,7 +62,7 @@ push-requires g c =
     let plan = c.args.plan.now in
     let ws = c.loop-waiting.waiting in
     making_slot g.C.Cost.structure (sizes_of plan.sizes) (order_of plan.order) plan.width c.args.p (listed c.args.records.now) c.args.area.now c.args.end c.requires.roomy (listed c.loop-waiting.records) (listed ws) c.loop-waiting.area c.loop-waiting.at c.loop-waiting.invariant
-    (omega (arith, listed_length ws, c.loop-waiting-test.true)) c.requires.ready
+    (omega (arith, c.len.ensures.count, c.loop-waiting-test.true)) c.requires.ready
 
 pub loop-waiting-preserved : goal.loop-waiting-preserved
 loop-waiting-preserved g c =
@@ -75,7 +75,7 @@ loop-waiting-preserved g c =
     let var = ap (λ (x : List ℕ). get_or x c.args.p 0) c.variables.ensures in
     let ms = c.part-parted.ensures.members in
     let scope = c.others-scope.ensures ∙ ap₂ (λ v (m : List Placed). kept (λ u. not (eqb u v)) (kept (names m) order)) var ms in
-    let some : 0 < length (listed ws) = omega (arith, listed_length ws, c.loop-waiting-test.true) in
+    let some : 0 < length (listed ws) = omega (arith, c.len.ensures.count, c.loop-waiting-test.true) in
     let room = making_room K sizes order plan.width c.args.p (listed c.args.records.now) c.args.area.now c.args.end c.requires.roomy (listed l.records) (listed ws) l.area l.at l.invariant some in
     making_goes K sizes order plan.width c.args.p (listed c.args.records.now) c.args.area.now c.args.end c.requires.roomy (listed l.records) (listed ws) l.area l.at l.invariant some
     _ _ (scope_of c.others-scope.result) _ _ scope
@@ -92,7 +92,7 @@ overflow_add-at g c =
     let l = c.loop-waiting in
     let var = ap (λ (x : List ℕ). get_or x c.args.p 0) c.variables.ensures in
     let scope = c.others-scope.ensures ∙ ap₂ (λ v (m : List Placed). kept (λ u. not (eqb u v)) (kept (names m) order)) var c.part-parted.ensures.members in
-    let some : 0 < length (listed ws) = omega (arith, listed_length ws, c.loop-waiting-test.true) in
+    let some : 0 < length (listed ws) = omega (arith, c.len.ensures.count, c.loop-waiting-test.true) in
     let room = making_room g.C.Cost.structure sizes order plan.width c.args.p (listed c.args.records.now) c.args.area.now c.args.end c.requires.roomy (listed l.records) (listed ws) l.area l.at l.invariant some in
     Fits-below {n = 18446744073709551615} tt (omega (arith, room, ap (cells sizes) scope, c.table_cells-at.ensures.count, l.invariant.long))
 
@@ -100,7 +100,7 @@ pub loop-waiting-smaller : goal.loop-waiting-smaller
 loop-waiting-smaller g c =
     let plan = c.args.plan.now in
     let ws = c.loop-waiting.waiting in
-    omega (arith, passed_less (order_of plan.order) plan.width (listed ws) (omega (arith, listed_length ws, c.loop-waiting-test.true)), listed_length ws, listed_length c.part-parted.result.rest, ap length c.part-parted.ensures.rest)
+    omega (arith, passed_less (order_of plan.order) plan.width (listed ws) (omega (arith, c.len.ensures.count, c.loop-waiting-test.true)), listed_length ws, listed_length c.part-parted.result.rest, ap length c.part-parted.ensures.rest)
 
 pub returns : goal.returns
 returns g c =

@@ -9,4 +9,4 @@ invariant-loop-waiting g l =
     Making g.C.Cost.structure (sizes_of l.plan.sizes) (order_of l.plan.order) l.plan.width l.p (listed l.initial.records) l.initial.area l.end (listed l.records) (listed l.waiting) l.area l.at
 
 abbrev pub decreases-loop-waiting : goal.decreases-loop-waiting
-decreases-loop-waiting g l = l.waiting.len
+decreases-loop-waiting g l = l.waiting.list.len

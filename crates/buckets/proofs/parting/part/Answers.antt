@@ -5,14 +5,15 @@ use Rattle.problems.specs.Records.{Placed}
 use Rattle.buckets.specs.declared.plain.Named.{Named}
 use Rattle.buckets.specs.Listed.{listed, tabled}
 use Rattle.buckets.specs.Joining.{names, joins, taken, passed}
-use Rattle.buckets.proofs.Listing.{listed_length, listed_drop}
+use Rattle.problems.proofs.Placements.{mapped_length}
+use Rattle.buckets.proofs.Listing.{mapped_drop}
 use Rattle.buckets.proofs.Joining.{joins_turn, waits_turn, all_waited}
 use Rattle.buckets.proofs.Marking.{named_push}
 use Rattle.buckets.proofs.parting.part.Goals as goal
 use Rattle.buckets.proofs.parting.part.Goals.{then-may_join, else-may_join}
 
-pub loop-k-init : goal.loop-k-init
-loop-k-init c =
+pub loop-function-init : goal.loop-function-init
+loop-function-init c =
     let order = order_of c.args.order.now in
     let w = c.args.width in
     let fs = listed c.args.waiting.now in
@@ -26,23 +27,23 @@ loop-k-init c =
     )
 
 pub may_join-requires : goal.may_join-requires
-may_join-requires c = c.loop-k.invariant.2
+may_join-requires c = c.loop-function.invariant.2
 
 pub push-requires : goal.push-requires
-push-requires c = omega (arith, c.loop-k.invariant.3)
+push-requires c = omega (arith, c.loop-function.invariant.3)
 
 pub push-requires-else-may_join : goal.push-requires-else-may_join
-push-requires-else-may_join c = omega (arith, c.loop-k.invariant.4)
+push-requires-else-may_join c = omega (arith, c.loop-function.invariant.4)
 
-pub loop-k-preserved : goal.loop-k-preserved
-loop-k-preserved c =
+pub loop-function-preserved : goal.loop-function-preserved
+loop-function-preserved c =
     let order = order_of c.args.order.now in
     let w = c.args.width in
     let all = c.args.waiting.now in
-    let k = c.loop-k.k in
-    let l = c.loop-k in
-    let item = get_or all.records k c.index-waiting-k.result in
-    let next = listed_drop all k c.index-waiting-k.result c.loop-k-test.true in
+    let k = c.loop-function.function-index in
+    let l = c.loop-function in
+    let item = c.function-item.result in
+    let next = mapped_drop tabled c.as_slice-function-items.result.now (listed all) c.as_slice-function-items.ensures.records k c.function-item.result c.loop-function-test.true c.function-item.is in
     let scope : scope_of c.scope-scope.result ≡ scope_of item.scope = ap scope_of c.scope-scope.ensures in
     let test : c.may_join.result ≡ joins order w (listed l.members) (scope_of item.scope) = c.may_join.ensures ∙ ap (joins order w (listed l.members)) scope in
     elim c.if-may_join.branch [
@@ -72,6 +73,6 @@ loop-k-preserved c =
 pub returns : goal.returns
 returns c =
     let s = c.args.waiting.now in
-    let l = c.loop-k in
-    let both = all_waited (order_of c.args.order.now) c.args.width (listed s) l.k (listed l.members) (listed l.rest) _ _ (omega (arith, listed_length s)) l.invariant.0 l.invariant.1 in
+    let l = c.loop-function in
+    let both = all_waited (order_of c.args.order.now) c.args.width (listed s) l.function-index (listed l.members) (listed l.rest) _ _ (omega (arith, mapped_length tabled c.as_slice-function-items.result.now (listed s) c.as_slice-function-items.ensures.records)) l.invariant.0 l.invariant.1 in
     record { members = both.0; rest = both.1 }

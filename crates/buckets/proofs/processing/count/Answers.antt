@@ -20,7 +20,7 @@ count_bucket-cells-requires c =
 pub overflow_add-cells : goal.overflow_add-cells
 overflow_add-cells c =
     let o = c.args.plan.now.order in
-    Fits-below {n = 18446744073709551615} tt (omega (arith, c.loop-p.invariant.small, c.count_bucket-cells.ensures.few, length-take o.len o.variables, o.few))
+    Fits-below {n = 18446744073709551615} tt (omega (arith, c.loop-p.invariant.small, c.count_bucket-cells.ensures.few, length-take o.variables.len o.variables.slots, o.variables.few))
 
 pub loop-p-preserved : goal.loop-p-preserved
 loop-p-preserved c =

@@ -1,16 +1,16 @@
-use Rattle.std.proofs.Common.{◌≡◌, ℕ, ◌-◌, ◌≤◌, List, length, set, replicate, sym, ap, ◌∙◌, arith}
+use Rattle.std.proofs.Common.{◌≡◌, ℕ, ◌-◌, ◌≤◌, List, length, set, replicate, ap, ◌∙◌, arith}
 use mir.Facts.{Fits-below}
-use Rattle.std.proofs.lemmas.List.{length-take, length-set, get_or-set_same}
+use Rattle.std.proofs.lemmas.List.{length-append, length-take, length-set, get_or-set_same}
 use Rattle.variables.specs.Records.{order_of, sizes_of}
 use Rattle.variables.specs.declared.plain.Order.{Order}
 use Rattle.variables.proofs.Slots.{same_slots, each_after}
+use Rattle.problems.specs.Records.{Placed}
 use Rattle.buckets.specs.Listed.{listed}
-use Rattle.buckets.proofs.Listing.{listed_length}
 use Rattle.buckets.proofs.Walking.{walk_ready, gone_begins, gone_scopes, gone_roomy, gone_goes, gone_ends}
 use Rattle.buckets.proofs.processing.make.Goals as goal
 
 few : (o : Order) (items : List ℕ) → items ≡ order_of o → length items ≤ 32
-few o items e = omega (arith, ap length e, length-take o.len o.variables, o.few)
+few o items e = omega (arith, ap length e, length-take o.variables.len o.variables.slots, o.variables.few)
 
 pub offset_bounds-reach-n : goal.offset_bounds-reach-n
 offset_bounds-reach-n g c = Fits-below {n = 4096} tt (omega (arith, few c.args.plan.now.order c.variables-n.result.now c.variables-n.ensures))
@@ -23,12 +23,12 @@ loop-p-init g c =
     let plan = c.args.plan.now in
     let fs = c.args.functions.now in
     let n = length c.variables-n.result.now in
-    let reach = set (replicate 33 0) n fs.len in
+    let reach = set (replicate 33 0) n c.len.result in
     let low = few plan.order c.variables-n.result.now c.variables-n.ensures in (
       gone_begins g.C.Cost.structure (sizes_of plan.sizes) (order_of plan.order) plan.width (listed fs) c.args.area.now c.args.at c.requires.able c.requires.spacious n reach (ap length c.variables-n.ensures)
-          (get_or-set_same (replicate 33 0) n fs.len 0 (omega arith) ∙ sym (listed_length fs)),
-      length-set (replicate 33 0) n fs.len,
-      each_after (λ x. x ≤ 384) (replicate 33 0) n fs.len 0 fs.few (λ v. omega (arith, same_slots {X = ℕ} 33 v 0)),
+          (get_or-set_same (replicate 33 0) n c.len.result 0 (omega arith) ∙ c.len.ensures.count),
+      length-set (replicate 33 0) n c.len.result,
+      each_after (λ x. x ≤ length (listed fs)) (replicate 33 0) n c.len.result 0 (omega (arith, c.len.ensures.count)) (λ v. omega (arith, same_slots {X = ℕ} 33 v 0)),
     )
 
 pub fill_bucket-end-requires : goal.fill_bucket-end-requires
@@ -51,9 +51,9 @@ loop-p-preserved g c =
     let low = few plan.order c.variables-n.result.now c.variables-n.ensures in
     let after = c.fill_bucket-end.new.records in (
       gone_goes g.C.Cost.structure (sizes_of plan.sizes) (order_of plan.order) plan.width (listed c.args.functions.now) c.args.area.now c.args.at c.requires.able c.requires.spacious l.p c.loop-p-test.true inside (listed l.records) l.reach l.area l.end l.invariant.0
-          (listed after) c.fill_bucket-end.new.area c.fill_bucket-end.result c.fill_bucket-end.ensures _ l.invariant.1 (omega (arith, l.auto.p)) (ap (set l.reach (l.p - 1)) (sym (listed_length after))),
-      length-set l.reach (l.p - 1) after.len ∙ l.invariant.1,
-      each_after (λ x. x ≤ 384) l.reach (l.p - 1) after.len 0 after.few l.invariant.2,
+          (listed after) c.fill_bucket-end.new.area c.fill_bucket-end.result c.fill_bucket-end.ensures _ l.invariant.1 (omega (arith, l.auto.p)) (ap (set l.reach (l.p - 1)) c.len-in-loop-p.ensures.count),
+      length-set l.reach (l.p - 1) c.len-in-loop-p.result ∙ l.invariant.1,
+      each_after (λ x. x ≤ length (listed after)) l.reach (l.p - 1) c.len-in-loop-p.result 0 (omega (arith, c.len-in-loop-p.ensures.count)) (λ q. omega (arith, l.invariant.2 q, ap length c.fill_bucket-end.ensures.records, length-append {A = Placed})),
     )
 
 pub returns : goal.returns

@@ -1,18 +1,18 @@
-use Rattle.std.proofs.Common.{◌≡◌, ℕ, ◌+◌, length, drop, sym, refl, ap, ◌∙◌, subst, arith}
+use Rattle.std.proofs.Common.{◌≡◌, ℕ, ◌+◌, List, length, drop, sym, refl, ap, ◌∙◌, subst, ap₂, arith}
 use Rattle.std.proofs.lemmas.Bool.{cond-true}
 use Rattle.variables.specs.Records.{sizes_of, order_of}
-use Rattle.problems.specs.Records.{nth}
+use Rattle.problems.specs.Records.{Placed, nth}
 use Rattle.problems.specs.Outlines.{outline}
 use Rattle.variables.specs.declared.plain.Order.{Order}
 use Rattle.floors.specs.Rules.{frame}
 use Rattle.floors.specs.Sources.{bucket_in}
 use Rattle.buckets.specs.Going.{Able, Spacious, Gone}
-use Rattle.buckets.specs.Listed.{listed}
+use Rattle.buckets.specs.Listed.{listed, tabled}
 use Rattle.buckets.specs.Made.{scopes_made, all_cells}
 use Rattle.buckets.specs.Processed.{scopes_of}
 use Rattle.buckets.specs.Sources.{short, mini_suits, mini_room}
 use Rattle.buckets.proofs.Keeping.{narrow_from, able_planned, spacious_planned, as_shaped, kept_records, kept_tables}
-use Rattle.buckets.proofs.Listing.{listed_length}
+use Rattle.problems.proofs.Placements.{mapped_length}
 use Rattle.buckets.proofs.mini_bucket.MiniBucketFloorSource.fill.Goals as goal
 
 pub make-made-requires : goal.make-made-requires
@@ -54,11 +54,13 @@ returns g c =
       behind = ap (λ n. drop (at + n) area') room ∙ gone.behind ∙ ap (λ n. drop (at + n) area) (sym room);
       filled = record {
         suited = c.requires.suited;
-        entered = sym (listed_length c.of-functions.result) ∙ ap length c.of-functions.ensures;
+        entered = c.len.ensures.count ∙ ap length c.of-functions.ensures;
         records = kept_records K shape w narrow area area' at c.requires.behind (listed made.records) made.reach (at + total) gone;
         tables = kept_tables K shape w narrow area area' at c.requires.behind (listed made.records) made.reach (at + total) gone;
         reach = λ p l. gone.reached p (omega arith) l;
-        buckets = λ k h. c.of.ensures k h ∙ ap (λ (x : Order). bucket_in (order_of x) (nth (listed made.records) k)) c.of-plan.ensures.order;
+        buckets = λ k h.
+            c.of_records.ensures k (omega (arith, c.as_slice.ensures.few, mapped_length tabled c.as_slice.result.now (listed made.records) c.as_slice.ensures.records)) (omega (arith, mapped_length tabled c.as_slice.result.now (listed made.records) c.as_slice.ensures.records))
+            ∙ ap₂ (λ (x : Order) (l : List Placed). bucket_in (order_of x) (nth l k)) c.of-plan.ensures.order c.as_slice.ensures.records;
       };
       same_suits = λ f. refl;
       same_room = λ f. refl;

@@ -1,4 +1,4 @@
-use Rattle.std.proofs.Common.{◌≡◌, map, get_or, take}
+use Rattle.std.proofs.Common.{◌≡◌, map}
 use Rattle.costs.proofs.Totals.{folded}
 use Rattle.problems.specs.Outlines.{outline}
 use Rattle.variables.specs.Assignments.{of}
@@ -11,6 +11,6 @@ use Rattle.buckets.proofs.mini_bucket.MiniBucketFloorSource.floor.Given as goal
 -- the records still to come lead on to all that count
 abbrev pub invariant-loop-k : goal.invariant-loop-k
 invariant-loop-k g l =
-    rest g.C.Cost.structure (outline l.shape).sizes l.area (of (values_of l.prefix.setting)) l.self.lying.buckets l.prefix.len (map tabled (take (get_or l.self.made.reach l.prefix.len 0) l.self.made.records.records)) l.sum l.k
+    rest g.C.Cost.structure (outline l.shape).sizes l.area (of (values_of l.prefix.setting)) l.buckets l.prefix.len (map tabled l.records) l.sum l.k
     ≡ folded g.C.Cost.structure g.C.Cost.structure.neutral
-    (map (held g.C.Cost.structure (outline l.shape).sizes l.area (of (values_of l.prefix.setting))) (picked l.self.lying.buckets l.prefix.len 0 (map tabled (take (get_or l.self.made.reach l.prefix.len 0) l.self.made.records.records))))
+    (map (held g.C.Cost.structure (outline l.shape).sizes l.area (of (values_of l.prefix.setting))) (picked l.buckets l.prefix.len 0 (map tabled l.records)))

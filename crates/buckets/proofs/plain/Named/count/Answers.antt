@@ -10,7 +10,7 @@ use Rattle.buckets.proofs.plain.Named.count.Goals.{then-has, else-has}
 pub overflow_add-count : goal.overflow_add-count
 overflow_add-count c =
     let o = c.args.order.now in
-    Fits-below {n = 255} tt (omega (arith, ap length c.variables-v-items.ensures, length-take o.len o.variables, c.loop-v.invariant.1))
+    Fits-below {n = 255} tt (omega (arith, ap length c.variables-v-items.ensures, o.variables.few, length-take o.variables.len o.variables.slots, c.loop-v.invariant.1))
 
 pub loop-v-preserved : goal.loop-v-preserved
 loop-v-preserved c =

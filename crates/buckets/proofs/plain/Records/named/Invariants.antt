@@ -4,5 +4,5 @@ use Rattle.buckets.specs.Joining.{names}
 use Rattle.buckets.proofs.plain.Records.named.Given as goal
 
 -- the variables marked, and those still to be
-abbrev pub invariant-loop-k : goal.invariant-loop-k
-invariant-loop-k l = (v : ℕ) → v < 32 → (get_or l.named.named v false || names (drop l.k (listed l.self)) v) ≡ names (listed l.self) v
+abbrev pub invariant-loop-function : goal.invariant-loop-function
+invariant-loop-function l = (v : ℕ) → v < 32 → (get_or l.named.named v false || names (drop l.function-index (listed l.self)) v) ≡ names (listed l.self) v

@@ -1,30 +1,24 @@
 use Rattle.std.proofs.Common.{List, [], ◌∷◌, ◌++◌, length, sym, ap, ap₂, ◌∙◌, arith}
-use Rattle.std.specs.Option.{option_map}
 use Rattle.std.proofs.lemmas.List.{length-take, take_all}
 use Rattle.problems.specs.Records.{placed_of, Placed}
 use Rattle.problems.specs.Outlines.{outline}
-use Rattle.problems.proofs.Placements.{nth_none}
-use Rattle.buckets.specs.Listed.{listed}
+use Rattle.problems.proofs.Placements.{mapped_length, mapped_nth}
 use Rattle.buckets.proofs.Listing.{next_placed}
 use Rattle.buckets.proofs.plain.Records.of.Goals as goal
-use Rattle.buckets.proofs.plain.Records.of.Goals.{in-Some, in_default}
 
 pub push-requires : goal.push-requires
 push-requires c =
-    omega (arith, ap length c.loop-k.invariant, length-take c.loop-k.k (outline c.args.shape.now).functions, c.function_count-k-end.ensures.few, c.function_count-k-end.ensures.count)
+    omega (arith, ap length c.loop-function.invariant, length-take c.loop-function.function-index (outline c.args.shape.now).functions, c.functions-function-items.ensures.few, c.loop-function-test.true)
 
-pub loop-k-preserved : goal.loop-k-preserved
-loop-k-preserved c =
+pub loop-function-preserved : goal.loop-function-preserved
+loop-function-preserved c =
     let fs = (outline c.args.shape.now).functions in
-    let k = c.loop-k.k in
-    elim c.match-function.branch [
-      | in-Some w ↦
-          ap listed w.records-is ∙ w.push.ensures ∙ ap₂ (λ (l : List Placed) (f : Placed). l ++ f ∷ []) c.loop-k.invariant w.entered.ensures
-          ∙ sym (next_placed fs k (placed_of w.in-Some.function) (sym c.function.ensures ∙ ap (option_map placed_of) w.in-Some.is))
-      | in_default w ↦ absurd (omega (arith, nth_none fs k (sym w.in_default.ensures), c.function_count-k-end.ensures.count, c.loop-k-test.true))
-    ]
+    let k = c.loop-function.function-index in
+    let f = placed_of c.function-item.result in
+    let there = mapped_nth placed_of c.functions-function-items.result.now fs c.functions-function-items.ensures.all k c.function-item.result c.loop-function-test.true c.function-item.is in
+    c.push.ensures ∙ ap₂ (λ (l : List Placed) (g : Placed). l ++ g ∷ []) c.loop-function.invariant c.from.ensures ∙ sym (next_placed fs k f there)
 
 pub returns : goal.returns
 returns c =
     let fs = (outline c.args.shape.now).functions in
-    c.loop-k.invariant ∙ take_all c.loop-k.k fs (omega (arith, c.function_count-k-end.ensures.count))
+    c.loop-function.invariant ∙ take_all c.loop-function.function-index fs (omega (arith, c.loop-function-test.false, mapped_length placed_of c.functions-function-items.result.now fs c.functions-function-items.ensures.all))

@@ -4,5 +4,5 @@ use Rattle.buckets.specs.Listed.{listed}
 use Rattle.buckets.proofs.plain.Records.of.Given as goal
 
 -- the functions so far
-abbrev pub invariant-loop-k : goal.invariant-loop-k
-invariant-loop-k l = listed l.records ≡ take l.k (outline l.shape).functions
+abbrev pub invariant-loop-function : goal.invariant-loop-function
+invariant-loop-function l = listed l.records ≡ take l.function-index (outline l.shape).functions

@@ -15,4 +15,4 @@ returns-clause-full g c =
     let area = c.args.area.now in
     let exact = c.combined_cost.ensures ∙ ap (λ (ps : List Placed). total K (map (held K sizes area (of (values_of c.args.setting.now))) ps)) c.functions.ensures.all in
     λ s full same. exact ∙ ap (λ (b : Assignment). total K (map (held K sizes area b) fs)) (fun_ext same)
-        ∙ ap (total K) (all_there K sizes area s full fs c.args.self.now.scoped)
+    ∙ ap (total K) (all_there K sizes area s full fs c.args.self.now.scoped)
