@@ -1,9 +1,10 @@
 -- Lists of records, and loops over them.
 use Rattle.std.proofs.Common.{◌≡◌, ℕ, zero, suc, ◌+◌, ◌-◌, ◌<◌, ◌≤◌, min, Bool, true, false, cond, ◌&&◌, ◌||◌, eqb, leb, List, [], ◌∷◌, ◌++◌, map, length, get_or, take, drop, set, Some, sym, refl, ap, ◌∙◌, inl, inr, add-one, arith}
 use Rattle.std.proofs.lemmas.List.{drop_all, take_all, length-drop, drop-map, append_assoc, append-nil, drop_more, at_drop_more, at_drop_all, get_or-map, get_or-set_same, get_or-set_other, length-set}
-use Rattle.std.proofs.lemmas.Bool.{cases_eq, cases_lt, eq-eqb, ne_eqb}
+use Rattle.std.proofs.lemmas.List.Recursion.{is_count_by}
+use Rattle.std.proofs.lemmas.Bool.{cases_Bool, cases_eq, cases_lt, eq-eqb, ne_eqb}
 use Rattle.variables.specs.Lists.{has}
-use Rattle.std.specs.List.{list_all}
+use Rattle.std.specs.List.{count_by, list_all}
 use Rattle.variables.specs.Records.{scope_of}
 use Rattle.problems.specs.declared.plain.TableRecord.{TableRecord}
 use Rattle.problems.specs.Records.{Placed, nth, placed_of}
@@ -52,22 +53,9 @@ module _ {A : Type 0} (p : A → Bool) (xs : List A) (i : ℕ) (x : A) (so_far w
       let step : kept p (drop i xs) ≡ kept p (drop (i + 1) xs) = ap (kept p) next ∙ ap (λ (b : Bool). cond b (x ∷ kept p (drop (i + 1) xs)) (kept p (drop (i + 1) xs))) t in
       ap (λ (l : List A). so_far ++ l) (sym step) ∙ before
 
--- counting in a loop
-module _ (p : ℕ → Bool) (xs : List ℕ) (i n whole : ℕ) (h : i < length xs) (before : n + length (kept p (drop i xs)) ≡ whole) where
-  pub counts : p (get_or xs i 0) ≡ true → (n + 1) + length (kept p (drop (i + 1) xs)) ≡ whole
-  counts t =
-      let step = at_drop_more (λ l. length (kept p l)) xs i 0 h in
-      let open' : length (kept p (get_or xs i 0 ∷ drop (i + 1) xs)) ≡ suc (length (kept p (drop (i + 1) xs))) = rw t in
-      omega arith
-
-  pub skips : p (get_or xs i 0) ≡ false → n + length (kept p (drop (i + 1) xs)) ≡ whole
-  skips t =
-      let step = at_drop_more (λ l. length (kept p l)) xs i 0 h in
-      let open' : length (kept p (get_or xs i 0 ∷ drop (i + 1) xs)) ≡ length (kept p (drop (i + 1) xs)) = rw t in
-      omega arith
-
-pub counted : (p : ℕ → Bool) (xs : List ℕ) (i n whole : ℕ) → length xs ≤ i → n + length (kept p (drop i xs)) ≡ whole → n ≡ whole
-counted p xs i n whole h before = let step = at_drop_all (λ l. length (kept p l)) xs i h in omega arith
+-- counting is the length of what is kept
+pub counted : (p : ℕ → Bool) (xs : List ℕ) → count_by p xs ≡ length (kept p xs)
+counted p xs = sym (is_count_by (λ ys. length (kept p ys)) p refl (λ y ys. elim (cases_Bool (p y)) [ inl t ↦ rw t (omega arith) | inr t ↦ rw t ]) xs)
 
 -- one record more of those of a job
 pub next_placed : (fs : List Placed) (k : ℕ) (f : Placed) → nth fs k ≡ Some f → take (k + 1) fs ≡ take k fs ++ f ∷ []

@@ -1,8 +1,7 @@
 // Sets of variables: those that the functions of a mini-bucket name.
-ghost use Rattle.std.specs.Prelude.{◌≡◌, ℕ, ◌<◌, true, false, ◌||◌, length, get_or, slice_index_or, slice_set};
+ghost use Rattle.std.specs.Prelude.{◌≡◌, ℕ, ◌<◌, true, false, ◌||◌, count_by, slice_index_or, slice_set};
 ghost use Rattle.variables.specs.Lists.{has};
 ghost use Rattle.variables.specs.Records.{scope_of, order_of};
-ghost use Rattle.floors.specs.Settings.{kept};
 
 use crate::plain::Named;
 use variables::order::Order;
@@ -19,12 +18,7 @@ impl Named {
     pub(crate) fn has(&self, variable: u8) -> bool
         ensures { result ≡ slice_index_or self.now.named variable false }
     {
-        let slot = variable as usize;
-        if slot < self.named.len() {
-            self.named[slot]
-        } else {
-            false
-        }
+        self.named.get(variable as usize).copied().unwrap_or(false)
     }
 
     // The variables of a scope are named too.
@@ -53,14 +47,8 @@ impl Named {
 
     // How many variables of the order are named.
     pub(crate) fn count(&self, order: &Order) -> usize
-        ensures { result ≡ length (kept (λ v. get_or self.now.named v false) (order_of order.now)) }
+        ensures { result ≡ count_by (λ v. slice_index_or self.now.named v false) (order_of order.now) }
     {
-        let mut count = 0;
-        for v in order.variables() {
-            if self.has(*v) {
-                count += 1;
-            }
-        }
-        count
+        order.variables().iter().filter(|v| self.has(**v)).count()
     }
 }
