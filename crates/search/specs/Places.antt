@@ -1,5 +1,5 @@
 -- What the search's records say.
-use Rattle.std.specs.Prelude.{◌≡◌, ℕ, suc, ◌≤◌, Bool, true, false, cond, List, ◌∷◌, map, reverse, length, Some, None, Option}
+use Rattle.std.specs.Prelude.{◌≡◌, ℕ, suc, ◌≤◌, Bool, true, false, cond, List, ◌∷◌, map, reverse, length, Some, Option}
 use Rattle.std.specs.Option.{option_map}
 use Rattle.costs.specs.Structures.{Structure, cheaper, total}
 use Rattle.variables.specs.declared.plain.Order.{Order}

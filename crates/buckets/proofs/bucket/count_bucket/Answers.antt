@@ -1,6 +1,4 @@
 use Rattle.std.proofs.Common.{◌≡◌, ℕ, ◌+◌, true, not, eqb, List, [], ◌∷◌, ◌++◌, length, get_or, sym, ap, ◌∙◌, subst, ap₂, arith}
-use mir.Facts.{Fits-below}
-use Rattle.std.proofs.lemmas.List.{length-take}
 use Rattle.variables.specs.Records.{order_of, sizes_of, scope_of}
 use Rattle.problems.specs.Records.{Placed}
 use Rattle.variables.specs.Rules.{proper}
@@ -9,14 +7,8 @@ use Rattle.buckets.specs.Listed.{listed}
 use Rattle.buckets.specs.Joining.{names}
 use Rattle.buckets.proofs.Listing.{listed_length}
 use Rattle.buckets.proofs.Propers.{listed_few}
-use Rattle.buckets.proofs.Coming.{proper_next, passed_less, counting_begins, counting_slot, counting_goes, counting_ends}
+use Rattle.buckets.proofs.Coming.{proper_next, passed_less, counting_begins, counting_slot, counting_goes}
 use Rattle.buckets.proofs.bucket.count_bucket.Goals as goal
-
-pub overflow_add-number : goal.overflow_add-number
-overflow_add-number c = let o = c.args.plan.now.order in Fits-below {n = 255} tt (omega (arith, c.requires.number, o.variables.few, length-take o.variables.len o.variables.slots))
-
-pub overflow_cast-number : goal.overflow_cast-number
-overflow_cast-number c = let o = c.args.plan.now.order in Fits-below {n = 255} tt (omega (arith, c.requires.number, o.variables.few, length-take o.variables.len o.variables.slots))
 
 pub loop-waiting-init : goal.loop-waiting-init
 loop-waiting-init c =
@@ -40,9 +32,6 @@ push-requires c =
     counting_slot (sizes_of plan.sizes) (order_of plan.order) plan.width c.args.p (listed c.args.records.now) (listed c.loop-waiting.records) (listed ws) c.loop-waiting.cells c.loop-waiting.invariant
     (omega (arith, c.len.ensures.count, c.loop-waiting-test.true)) c.requires
 
-pub overflow_add-cells : goal.overflow_add-cells
-overflow_add-cells c = Fits-below {n = 4294967295} tt (omega (arith, c.loop-waiting.invariant.small, listed_length c.loop-waiting.records, c.loop-waiting.records.list.few, c.table_cells-cells.ensures.few))
-
 pub loop-waiting-preserved : goal.loop-waiting-preserved
 loop-waiting-preserved c =
     let plan = c.args.plan.now in
@@ -60,11 +49,3 @@ loop-waiting-smaller c =
     let plan = c.args.plan.now in
     let ws = c.loop-waiting.waiting in
     omega (arith, passed_less (order_of plan.order) plan.width (listed ws) (omega (arith, c.len.ensures.count, c.loop-waiting-test.true)), listed_length ws, listed_length c.part-parted.result.rest, ap length c.part-parted.ensures.rest)
-
-pub returns : goal.returns
-returns c =
-    let plan = c.args.plan.now in
-    let ws = c.loop-waiting.waiting in
-    let both = counting_ends (sizes_of plan.sizes) (order_of plan.order) plan.width c.args.p (listed c.args.records.now) (listed c.loop-waiting.records) (listed ws) c.loop-waiting.cells c.loop-waiting.invariant
-    (omega (arith, listed_length ws, c.loop-waiting-test.false)) in
-    record { records = both.0; cells = both.1; few = omega (arith, c.loop-waiting.invariant.small, listed_length c.loop-waiting.records, c.loop-waiting.records.list.few) }

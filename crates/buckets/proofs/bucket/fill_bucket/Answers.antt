@@ -1,6 +1,5 @@
 use Rattle.std.proofs.Common.{◌≡◌, ℕ, ◌+◌, ◌<◌, true, not, eqb, List, [], ◌∷◌, ◌++◌, map, length, get_or, take, drop, sym, ap, ◌∙◌, subst, ap₂, arith}
 use mir.Facts.{Fits-below}
-use Rattle.std.proofs.lemmas.List.{length-take}
 use Rattle.variables.specs.Assignments.{cells}
 use Rattle.variables.specs.Records.{order_of, sizes_of, scope_of}
 use Rattle.problems.specs.Records.{Placed, function_in}
@@ -16,12 +15,6 @@ use Rattle.buckets.proofs.Propers.{listed_few}
 use Rattle.buckets.proofs.Coming.{proper_next, passed_less}
 use Rattle.buckets.proofs.Making.{making_begins, making_slot, making_room, making_below, making_inside, making_goes, making_ends, inside_as}
 use Rattle.buckets.proofs.bucket.fill_bucket.Goals as goal
-
-pub overflow_add-number : goal.overflow_add-number
-overflow_add-number g c = let o = c.args.plan.now.order in Fits-below {n = 255} tt (omega (arith, c.requires.ready.number, o.variables.few, length-take o.variables.len o.variables.slots))
-
-pub overflow_cast-number : goal.overflow_cast-number
-overflow_cast-number g c = let o = c.args.plan.now.order in Fits-below {n = 255} tt (omega (arith, c.requires.ready.number, o.variables.few, length-take o.variables.len o.variables.slots))
 
 pub loop-waiting-init : goal.loop-waiting-init
 loop-waiting-init g c =

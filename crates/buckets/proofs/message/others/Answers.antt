@@ -7,7 +7,7 @@ use Rattle.floors.specs.Settings.{kept}
 use Rattle.buckets.specs.Listed.{listed}
 use Rattle.buckets.specs.Joining.{names}
 use Rattle.buckets.proofs.Lows.{order_low}
-use Rattle.buckets.proofs.Listing.{keeps, passes, turned, kept_whole}
+use Rattle.buckets.proofs.Listing.{keeps, passes, turned}
 use Rattle.buckets.proofs.Marking.{others_kept, not_barred, accepted}
 use Rattle.buckets.proofs.message.others.Goals as goal
 use Rattle.buckets.proofs.message.others.Goals.{then-has, else-has}
@@ -42,6 +42,3 @@ loop-u-preserved c =
           ap (λ (l : List ℕ). l ++ kept test (drop (i + 1) order)) (ap scope_of w.scope-is)
           ∙ passes test order i u so_far whole next c.loop-u.invariant (sym c.has.ensures ∙ w.if-has.false)
     ]
-
-pub returns : goal.returns
-returns c = kept_whole _ (order_of c.args.order.now) c.loop-u.u-index (scope_of c.loop-u.scope) _ (omega (arith, ap length c.variables-u-items.ensures)) c.loop-u.invariant

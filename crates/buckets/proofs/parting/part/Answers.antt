@@ -4,36 +4,12 @@ use Rattle.variables.specs.Records.{order_of, scope_of}
 use Rattle.problems.specs.Records.{Placed}
 use Rattle.buckets.specs.declared.plain.Named.{Named}
 use Rattle.buckets.specs.Listed.{listed, tabled}
-use Rattle.buckets.specs.Joining.{names, joins, taken, passed}
-use Rattle.problems.proofs.Placements.{mapped_length}
+use Rattle.buckets.specs.Joining.{names, joins}
 use Rattle.buckets.proofs.Listing.{mapped_drop}
-use Rattle.buckets.proofs.Joining.{joins_turn, waits_turn, all_waited}
+use Rattle.buckets.proofs.Joining.{joins_turn, waits_turn}
 use Rattle.buckets.proofs.Marking.{named_push}
 use Rattle.buckets.proofs.parting.part.Goals as goal
 use Rattle.buckets.proofs.parting.part.Goals.{then-may_join, else-may_join}
-
-pub loop-function-init : goal.loop-function-init
-loop-function-init c =
-    let order = order_of c.args.order.now in
-    let w = c.args.width in
-    let fs = listed c.args.waiting.now in
-    let ms = c.none-members.ensures in
-    let rest = c.none-rest.ensures in (
-      ap (λ (l : List Placed). taken order w l fs) ms,
-      ap (λ (l : List Placed). l ++ passed order w (listed c.none-members.result) fs) rest ∙ ap (λ (l : List Placed). passed order w l fs) ms,
-      λ v l. c.none-named.ensures v ∙ ap (λ (x : List Placed). names x v) (sym ms),
-      omega (arith, ap length ms),
-      omega (arith, ap length rest),
-    )
-
-pub may_join-requires : goal.may_join-requires
-may_join-requires c = c.loop-function.invariant.2
-
-pub push-requires : goal.push-requires
-push-requires c = omega (arith, c.loop-function.invariant.3)
-
-pub push-requires-else-may_join : goal.push-requires-else-may_join
-push-requires-else-may_join c = omega (arith, c.loop-function.invariant.4)
 
 pub loop-function-preserved : goal.loop-function-preserved
 loop-function-preserved c =
@@ -69,10 +45,3 @@ loop-function-preserved c =
             omega (arith, l.invariant.4, ap length more, length_push (listed l.rest) (tabled item)),
           )
     ]
-
-pub returns : goal.returns
-returns c =
-    let s = c.args.waiting.now in
-    let l = c.loop-function in
-    let both = all_waited (order_of c.args.order.now) c.args.width (listed s) l.function-index (listed l.members) (listed l.rest) _ _ (omega (arith, mapped_length tabled c.as_slice-function-items.result.now (listed s) c.as_slice-function-items.ensures.records)) l.invariant.0 l.invariant.1 in
-    record { members = both.0; rest = both.1 }

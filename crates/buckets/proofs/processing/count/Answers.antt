@@ -1,15 +1,8 @@
 use Rattle.std.proofs.Common.{length, refl, ap, arith}
-use mir.Facts.{Fits-below}
-use Rattle.std.proofs.lemmas.List.{length-take}
 use Rattle.variables.specs.Records.{order_of, sizes_of}
 use Rattle.buckets.specs.Listed.{listed}
-use Rattle.buckets.proofs.Walking.{walk_ready, tally_begins, tally_goes, tally_ends}
+use Rattle.buckets.proofs.Walking.{walk_ready, tally_goes}
 use Rattle.buckets.proofs.processing.count.Goals as goal
-
-pub loop-p-init : goal.loop-p-init
-loop-p-init c =
-    let plan = c.args.plan.now in
-    tally_begins (sizes_of plan.sizes) (order_of plan.order) plan.width (listed c.args.functions.now) (length c.variables-p.result.now) (ap length c.variables-p.ensures)
 
 pub count_bucket-cells-requires : goal.count_bucket-cells-requires
 count_bucket-cells-requires c =
@@ -17,18 +10,8 @@ count_bucket-cells-requires c =
     walk_ready (sizes_of plan.sizes) (order_of plan.order) plan.width (listed c.args.functions.now) c.requires c.loop-p.p c.loop-p-test.true (omega (arith, c.loop-p.auto.p, ap length c.variables-p.ensures))
     (listed c.loop-p.records) c.loop-p.invariant.scopes
 
-pub overflow_add-cells : goal.overflow_add-cells
-overflow_add-cells c =
-    let o = c.args.plan.now.order in
-    Fits-below {n = 18446744073709551615} tt (omega (arith, c.loop-p.invariant.small, c.count_bucket-cells.ensures.few, length-take o.variables.len o.variables.slots, o.variables.few))
-
 pub loop-p-preserved : goal.loop-p-preserved
 loop-p-preserved c =
     let plan = c.args.plan.now in
     tally_goes (sizes_of plan.sizes) (order_of plan.order) plan.width (listed c.args.functions.now) c.requires c.loop-p.p (listed c.loop-p.records) _ c.loop-p.cells c.count_bucket-cells.result _
     c.loop-p-test.true (omega (arith, c.loop-p.auto.p, ap length c.variables-p.ensures)) c.loop-p.invariant c.count_bucket-cells.ensures.records c.count_bucket-cells.ensures.cells c.count_bucket-cells.ensures.few refl
-
-pub returns : goal.returns
-returns c =
-    let plan = c.args.plan.now in
-    tally_ends (sizes_of plan.sizes) (order_of plan.order) plan.width (listed c.args.functions.now) c.loop-p.p (listed c.loop-p.records) c.loop-p.cells (omega (arith, c.loop-p-test.false)) c.loop-p.invariant

@@ -1,22 +1,15 @@
 use Rattle.std.proofs.Common.{◌≡◌, ℕ, ◌-◌, ◌≤◌, List, length, set, replicate, ap, ◌∙◌, arith}
-use mir.Facts.{Fits-below}
 use Rattle.std.proofs.lemmas.List.{length-append, length-take, length-set, get_or-set_same}
 use Rattle.variables.specs.Records.{order_of, sizes_of}
 use Rattle.variables.specs.declared.plain.Order.{Order}
 use Rattle.variables.proofs.Slots.{same_slots, each_after}
 use Rattle.problems.specs.Records.{Placed}
 use Rattle.buckets.specs.Listed.{listed}
-use Rattle.buckets.proofs.Walking.{walk_ready, gone_begins, gone_scopes, gone_roomy, gone_goes, gone_ends}
+use Rattle.buckets.proofs.Walking.{walk_ready, gone_begins, gone_scopes, gone_roomy, gone_goes}
 use Rattle.buckets.proofs.processing.make.Goals as goal
 
 few : (o : Order) (items : List ℕ) → items ≡ order_of o → length items ≤ 32
 few o items e = omega (arith, ap length e, length-take o.variables.len o.variables.slots, o.variables.few)
-
-pub offset_bounds-reach-n : goal.offset_bounds-reach-n
-offset_bounds-reach-n g c = Fits-below {n = 4096} tt (omega (arith, few c.args.plan.now.order c.variables-n.result.now c.variables-n.ensures))
-
-pub bounds-reach-n : goal.bounds-reach-n
-bounds-reach-n g c = omega (arith, few c.args.plan.now.order c.variables-n.result.now c.variables-n.ensures)
 
 pub loop-p-init : goal.loop-p-init
 loop-p-init g c =
@@ -55,15 +48,3 @@ loop-p-preserved g c =
       length-set l.reach (l.p - 1) c.len-in-loop-p.result ∙ l.invariant.1,
       each_after (λ x. x ≤ length (listed after)) l.reach (l.p - 1) c.len-in-loop-p.result 0 (omega (arith, c.len-in-loop-p.ensures.count)) (λ q. omega (arith, l.invariant.2 q, ap length c.fill_bucket-end.ensures.records, length-append {A = Placed})),
     )
-
-pub returns : goal.returns
-returns g c =
-    let plan = c.args.plan.now in
-    let l = c.loop-p in
-    gone_ends g.C.Cost.structure (sizes_of plan.sizes) (order_of plan.order) plan.width (listed c.args.functions.now) c.args.area.now c.args.at c.requires.able c.requires.spacious l.p (listed l.records) l.reach l.area l.end (omega (arith, c.loop-p-test.false)) l.invariant.0
-
-pub offset_bounds-reach-p : goal.offset_bounds-reach-p
-offset_bounds-reach-p g c = Fits-below {n = 4096} tt (omega (arith, c.loop-p.auto.p, few c.args.plan.now.order c.variables-n.result.now c.variables-n.ensures))
-
-pub bounds-reach-p : goal.bounds-reach-p
-bounds-reach-p g c = omega (arith, c.loop-p.auto.p, few c.args.plan.now.order c.variables-n.result.now c.variables-n.ensures)

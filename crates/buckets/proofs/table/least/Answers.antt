@@ -9,7 +9,7 @@ use Rattle.variables.specs.declared.plain.Sizes.{Sizes}
 use Rattle.floors.specs.Leasts.{lesser}
 use Rattle.floors.specs.Settings.{assign}
 use Rattle.buckets.specs.Listed.{listed}
-use Rattle.buckets.proofs.Leasts.{least_first, least_more, least_all}
+use Rattle.buckets.proofs.Leasts.{least_first, least_more}
 use Rattle.buckets.proofs.Lows.{sized_low}
 use Rattle.buckets.proofs.Tuples.{of_set}
 use Rattle.buckets.proofs.table.least.Goals as goal
@@ -51,12 +51,3 @@ loop-value-preserved g c =
           (step ∙ ap (lesser K l.least) here),
       λ x. ap (λ (s : List ℕ). set s v x) slots ∙ set-set (values_of t) v value x,
     )
-
-pub returns : goal.returns
-returns g c =
-    let K = g.C.Cost.structure in
-    let sizes = sizes_of c.args.sizes.now in
-    let v = c.args.variable in
-    let t = c.args.tuple.now in
-    least_all g.met.C.Cost.lawful (λ x. total K (map (held K sizes c.args.area.now (assign (of (values_of t)) v x)) (listed c.args.members.now))) (get_or sizes v 0) c.loop-value.least c.loop-value.value _
-    (omega (arith, c.loop-value-test.false, c.size-value-end.ensures)) c.loop-value.invariant.0

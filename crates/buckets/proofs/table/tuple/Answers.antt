@@ -1,7 +1,5 @@
-use Rattle.std.proofs.Common.{◌≡◌, ℕ, ◌-◌, ◌<◌, ◌≤◌, true, List, [], length, get_or, drop, sym, refl, ap, ◌∙◌, mod-lt, arith}
+use Rattle.std.proofs.Common.{◌≡◌, ℕ, ◌-◌, ◌<◌, ◌≤◌, List, length, get_or, drop, sym, ap, ◌∙◌, mod-lt, arith}
 use mir.Facts.{Fits-below}
-use Rattle.std.proofs.lemmas.List.{drop_all}
-use Rattle.std.proofs.lemmas.Bool.{both_ways}
 use Rattle.variables.specs.Lists.{has}
 use Rattle.variables.specs.Assignments.{of, cells, cell_from}
 use Rattle.variables.specs.Records.{sizes_of, scope_of, values_of}
@@ -20,15 +18,6 @@ item_size sizes scope cell items e low k size some l is =
 item_low : (scope : Scope) (items : List ℕ) → items ≡ scope_of scope → (k : ℕ) → 0 < k → k ≤ length items → get_or items (k - 1) 0 < 32
 item_low scope items e k some l =
     omega (arith, scope_low scope (get_or (scope_of scope) (k - 1) 0) (getD_has (scope_of scope) (k - 1) (omega (arith, ap length e))), ap (λ (vs : List ℕ). get_or vs (k - 1) 0) e)
-
-pub loop-k-init : goal.loop-k-init
-loop-k-init c =
-    let scope = scope_of c.args.scope.now in
-    let end : drop (length c.variables-variables.result.now) scope ≡ [] = drop_all _ scope (omega (arith, ap length c.variables-variables.ensures)) in (
-      ap (λ (vs : List ℕ). cell_from (sizes_of c.args.sizes.now) c.args.cell vs (of (values_of c.empty-setting.result))) end,
-      λ v h. absurd (both_ways true (sym h ∙ ap (λ (vs : List ℕ). has vs v) end) refl),
-      λ v h. c.empty-setting.ensures v,
-    )
 
 pub nonzero_rem-left : goal.nonzero_rem-left
 nonzero_rem-left c = item_size c.args.sizes.now c.args.scope.now c.args.cell c.variables-variables.result.now c.variables-variables.ensures c.requires c.loop-k.k c.size-size.result c.loop-k-test.true c.loop-k.auto.k c.size-size.ensures

@@ -1,4 +1,4 @@
-use Rattle.std.proofs.Common.{◌≡◌, ◌+◌, ◌<◌, List, [], ◌++◌, map, length, get_or, take, drop, set, sym, ap, ◌∙◌, arith}
+use Rattle.std.proofs.Common.{◌≡◌, ◌+◌, ◌<◌, List, ◌++◌, map, length, get_or, take, drop, set, sym, ap, ◌∙◌, arith}
 use Rattle.std.proofs.lemmas.List.{take_all}
 use Rattle.variables.specs.Assignments.{of, cells}
 use Rattle.variables.specs.Records.{sizes_of, scope_of, values_of}
@@ -6,11 +6,8 @@ use Rattle.problems.specs.Records.{function_in}
 use Rattle.floors.specs.MiniBuckets.{tabulate, eliminated}
 use Rattle.floors.specs.Tables.{tabulate_length}
 use Rattle.buckets.specs.Listed.{listed}
-use Rattle.buckets.proofs.Writing.{written_none, written_more, written_front, least_here, table_at}
+use Rattle.buckets.proofs.Writing.{written_more, written_front, least_here, table_at}
 use Rattle.buckets.proofs.table.write.Goals as goal
-
-pub loop-k-init : goal.loop-k-init
-loop-k-init g c = written_none c.args.area.now [] c.args.start
 
 pub loop-k-preserved : goal.loop-k-preserved
 loop-k-preserved g c =

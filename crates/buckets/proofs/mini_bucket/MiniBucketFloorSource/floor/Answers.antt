@@ -1,5 +1,5 @@
 use Rattle.std.proofs.Common.{◌≡◌, ℕ, ◌+◌, ◌<◌, ◌≤◌, true, List, map, length, get_or, take, sym, refl, ap, ◌∙◌, subst, ap₂, arith}
-use Rattle.std.proofs.lemmas.List.{length-take-le, take-map}
+use Rattle.std.proofs.lemmas.List.{take-map}
 use Rattle.costs.proofs.Totals.{folded}
 use Rattle.variables.specs.declared.plain.Setting.{Setting}
 use Rattle.variables.specs.declared.plain.Sizes.{Sizes}
@@ -16,25 +16,9 @@ use Rattle.floors.specs.Admissions.{mini_bucket_climbs}
 use Rattle.floors.proofs.Pickings.{rest, picks, passes, all_picked, picked}
 use Rattle.floors.proofs.Paids.{given}
 use Rattle.buckets.specs.Listed.{listed, tabled}
-use Rattle.buckets.proofs.Listing.{listed_length}
 use Rattle.buckets.proofs.Flooring.{mini_told}
 use Rattle.buckets.proofs.mini_bucket.MiniBucketFloorSource.floor.Goals as goal
 use Rattle.buckets.proofs.mini_bucket.MiniBucketFloorSource.floor.Goals.{then-buckets-k, else-buckets-k}
-
-pub slice_bounds-records-end : goal.slice_bounds-records-end
-slice_bounds-records-end g c =
-    let s = c.args.self.now in
-    let items = c.as_slice.result.now in
-    let r = s.made.records.list in
-    sym (length-take-le (get_or s.made.reach c.len-len.result 0) items (omega (arith, s.made.capped c.len-len.result, listed_length s.made.records, length-take-le r.len r.slots (omega (arith, r.few, r.long)), mapped_length tabled items (listed s.made.records) c.as_slice.ensures.records)))
-
-pub loop-k-init : goal.loop-k-init
-loop-k-init g c =
-    let K = g.C.Cost.structure in
-    let o = outline c.args.shape.now in
-    let a = of (values_of c.args.prefix.now.setting) in
-    let fs = map tabled (take (get_or c.args.self.now.made.reach c.len-len.result 0) c.as_slice.result.now) in
-    ap (λ (sum : g.row.C.Denot). rest K o.sizes c.args.area.now a c.as_slice-buckets.result.now c.args.prefix.now.len fs sum 0) c.neutral-sum.ensures
 
 pub loop-k-preserved : goal.loop-k-preserved
 loop-k-preserved g c =

@@ -8,19 +8,9 @@ use Rattle.floors.specs.Settings.{kept}
 use Rattle.floors.specs.ByNumber.{bucket_of}
 use Rattle.buckets.specs.Listed.{listed, tabled}
 use Rattle.buckets.specs.Joining.{lies_at}
-use Rattle.problems.proofs.Placements.{mapped_length}
-use Rattle.buckets.proofs.Listing.{mapped_drop, keeps, passes, kept_whole}
+use Rattle.buckets.proofs.Listing.{mapped_drop, keeps, passes}
 use Rattle.buckets.proofs.plain.Records.lying.Goals as goal
 use Rattle.buckets.proofs.plain.Records.lying.Goals.{then-bucket-number, else-bucket-number}
-
-pub loop-function-init : goal.loop-function-init
-loop-function-init c = (
-  ap (λ (l : List Placed). l ++ kept (lies_at (order_of c.args.order.now) c.args.number) (listed c.args.self.now)) c.none-lying.ensures,
-  omega (arith, ap length c.none-lying.ensures),
-)
-
-pub push-requires : goal.push-requires
-push-requires c = omega (arith, c.loop-function.invariant.1)
 
 pub loop-function-preserved : goal.loop-function-preserved
 loop-function-preserved c =
@@ -44,6 +34,3 @@ loop-function-preserved c =
             omega (arith, c.loop-function.invariant.1, ap length same),
           )
     ]
-
-pub returns : goal.returns
-returns c = let s = c.args.self.now in kept_whole (lies_at (order_of c.args.order.now) c.args.number) (listed s) c.loop-function.function-index (listed c.loop-function.lying) _ (omega (arith, mapped_length tabled c.as_slice-function-items.result.now (listed s) c.as_slice-function-items.ensures.records)) c.loop-function.invariant.0

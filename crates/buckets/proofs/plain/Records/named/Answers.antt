@@ -1,14 +1,10 @@
-use Rattle.std.proofs.Common.{Bool, false, ◌||◌, get_or, ap, arith}
+use Rattle.std.proofs.Common.{false, get_or, ap}
 use Rattle.variables.specs.Records.{scope_of}
 use Rattle.buckets.specs.Listed.{listed, tabled}
 use Rattle.buckets.specs.Joining.{names}
-use Rattle.problems.proofs.Placements.{mapped_length}
 use Rattle.buckets.proofs.Listing.{mapped_drop}
-use Rattle.buckets.proofs.Marking.{named_more, named_all}
+use Rattle.buckets.proofs.Marking.{named_more}
 use Rattle.buckets.proofs.plain.Records.named.Goals as goal
-
-pub loop-function-init : goal.loop-function-init
-loop-function-init c = λ v l. ap (λ (b : Bool). b || names (listed c.args.self.now) v) (c.none-named.ensures v)
 
 pub loop-function-preserved : goal.loop-function-preserved
 loop-function-preserved c =
@@ -17,6 +13,3 @@ loop-function-preserved c =
     let item = c.function-item.result in
     λ v l. named_more (listed s) k (tabled item) (scope_of c.scope.result) v (get_or c.loop-function.named.named v false) (get_or c.add.new.self.named v false) (names (listed s) v)
     (ap scope_of c.scope.ensures) (mapped_drop tabled c.as_slice-function-items.result.now (listed s) c.as_slice-function-items.ensures.records k c.function-item.result c.loop-function-test.true c.function-item.is) (c.loop-function.invariant v l) (c.add.ensures v l)
-
-pub returns : goal.returns
-returns c = let s = c.args.self.now in λ v l. named_all (listed s) c.loop-function.function-index v (get_or c.loop-function.named.named v false) (names (listed s) v) (omega (arith, mapped_length tabled c.as_slice-function-items.result.now (listed s) c.as_slice-function-items.ensures.records)) (c.loop-function.invariant v l)

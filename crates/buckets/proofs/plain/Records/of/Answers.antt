@@ -1,14 +1,9 @@
-use Rattle.std.proofs.Common.{List, [], ◌∷◌, ◌++◌, length, sym, ap, ap₂, ◌∙◌, arith}
-use Rattle.std.proofs.lemmas.List.{length-take, take_all}
+use Rattle.std.proofs.Common.{List, [], ◌∷◌, ◌++◌, sym, ap₂, ◌∙◌}
 use Rattle.problems.specs.Records.{placed_of, Placed}
 use Rattle.problems.specs.Outlines.{outline}
-use Rattle.problems.proofs.Placements.{mapped_length, mapped_nth}
+use Rattle.problems.proofs.Placements.{mapped_nth}
 use Rattle.buckets.proofs.Listing.{next_placed}
 use Rattle.buckets.proofs.plain.Records.of.Goals as goal
-
-pub push-requires : goal.push-requires
-push-requires c =
-    omega (arith, ap length c.loop-function.invariant, length-take c.loop-function.function-index (outline c.args.shape.now).functions, c.functions-function-items.ensures.few, c.loop-function-test.true)
 
 pub loop-function-preserved : goal.loop-function-preserved
 loop-function-preserved c =
@@ -17,8 +12,3 @@ loop-function-preserved c =
     let f = placed_of c.function-item.result in
     let there = mapped_nth placed_of c.functions-function-items.result.now fs c.functions-function-items.ensures.all k c.function-item.result c.loop-function-test.true c.function-item.is in
     c.push.ensures ∙ ap₂ (λ (l : List Placed) (g : Placed). l ++ g ∷ []) c.loop-function.invariant c.from.ensures ∙ sym (next_placed fs k f there)
-
-pub returns : goal.returns
-returns c =
-    let fs = (outline c.args.shape.now).functions in
-    c.loop-function.invariant ∙ take_all c.loop-function.function-index fs (omega (arith, c.loop-function-test.false, mapped_length placed_of c.functions-function-items.result.now fs c.functions-function-items.ensures.all))

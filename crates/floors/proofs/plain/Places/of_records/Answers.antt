@@ -2,7 +2,7 @@ use Rattle.std.proofs.Common.{◌≡◌, ℕ, map, Some, sym, ap, ◌∙◌, ari
 use Rattle.std.proofs.lemmas.List.{length-set}
 use Rattle.variables.specs.declared.plain.Scope.{Scope}
 use Rattle.variables.specs.Records.{order_of, scope_of}
-use Rattle.problems.specs.Records.{Placed, nth, placed_of}
+use Rattle.problems.specs.Records.{nth, placed_of}
 use Rattle.problems.specs.declared.plain.TableRecord.{TableRecord}
 use Rattle.problems.proofs.Placements.{nth_map}
 use Rattle.floors.specs.ByNumber.{bucket_of}

@@ -1,6 +1,4 @@
-use Rattle.std.proofs.Common.{◌≡◌, true, false, sym, ◌∙◌, ap₂, arith}
-use Rattle.variables.specs.declared.plain.Order.{Order}
-use Rattle.variables.specs.declared.plain.Sizes.{Sizes}
+use Rattle.std.proofs.Common.{◌≡◌, true, false, sym, arith}
 use Rattle.variables.specs.Records.{sizes_of, order_of}
 use Rattle.problems.specs.Outlines.{outline, problem}
 use Rattle.search.specs.Searches.{ended, ran}

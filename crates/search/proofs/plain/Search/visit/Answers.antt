@@ -1,24 +1,13 @@
-use Rattle.std.proofs.Common.{◌≡◌, false, ltb, length, sym, refl, ap, ◌∙◌, subst}
+use Rattle.std.proofs.Common.{◌≡◌, length, sym, refl, ap, ◌∙◌, subst}
 use Rattle.variables.specs.declared.plain.Order.{Order}
-use Rattle.variables.specs.declared.plain.Sizes.{Sizes}
 use Rattle.variables.specs.Records.{order_of, Longer}
 use Rattle.problems.specs.Outlines.{outline, problem}
 use Rattle.search.specs.declared.plain.Search.{Search as Bounded}
 use Rattle.search.specs.Places.{search_of, Backs}
 use Rattle.search.proofs.Visits.{tried_low, tried_fits}
-use Rattle.search.proofs.Leads.{not_full, now, trying, stays_deeper, stays_backed, stays_noted, visits_deeper, visits_pruned, visits_noted}
+use Rattle.search.proofs.Leads.{now, trying, stays_deeper, stays_backed, stays_noted, visits_deeper, visits_pruned, visits_noted}
 use Rattle.search.proofs.plain.Search.visit.Goals as goal
 use Rattle.search.proofs.plain.Search.visit.Goals.{then-len-variables, else-len-variables+else-promises}
-
-pub returns-then-not-push : goal.returns-then-not-push
-returns-then-not-push g c =
-    let sh = c.args.shape.now in
-    let b = c.args.self.now.place in
-    let none = subst (λ (o : Order). false ≡ ltb b.prefix.len (length (order_of o))) c.along.ensures c.if-not-push.ensures.more in
-    record {
-      visits = λ filled formed st goes. absurd (not_full sh b none st goes);
-      stays = λ st goes. absurd (not_full sh b none st goes);
-    }
 
 pub returns-then-promises : goal.returns-then-promises
 returns-then-promises g c =
