@@ -1,4 +1,3 @@
-pub mod Fronts
 pub mod Firsts
 pub mod Digits
 pub mod Rulings

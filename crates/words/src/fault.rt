@@ -26,6 +26,13 @@ pub struct Fault {
 }
 
 impl Flaw {
+    // The fault that it is at a place.
+    pub fn at(self, at: usize) -> Fault
+        ensures { result ≡ record { flaw = self; at = at } }
+    {
+        Fault { flaw: self, at }
+    }
+
     // The number by which callers know it.
     pub fn number(self) -> u8
         ensures { result ≡ flaw_number self }
@@ -57,9 +64,6 @@ impl From<Refusal> for Fault {
     ghost from_gives = { λ why r. r ≡ record { flaw = Job why; at = 0 } };
 
     fn from(why: Refusal) -> Fault {
-        Fault {
-            flaw: Flaw::Job(why),
-            at: 0,
-        }
+        Flaw::Job(why).at(0)
     }
 }

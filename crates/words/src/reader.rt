@@ -7,7 +7,7 @@ ghost use Rattle.words.specs.Readers.{text_of, left_of, seen};
 
 use crate::fault::{Fault, Flaw};
 use crate::number::{Number, parsed};
-use crate::run::{run_end, skip_blanks};
+use crate::run::{blanks, run};
 use variables::refusal::Refusal;
 
 // A part of the text, and where it begins.
@@ -39,8 +39,8 @@ impl<'a> Reader<'a> {
         ensures moved { left_of self.new ≡ rest_of (left_of self.old) }
         ensures read { answered (seen result) (left_of self.new) ≡ next (length (text_of self.old)) (left_of self.old) }
     {
-        let from = skip_blanks(self.text, self.at);
-        let to = run_end(self.text, from);
+        let from = self.at + blanks(self.text, self.at);
+        let to = from + run(self.text, from);
         self.at = to;
         if from < to {
             Ok(Word {
@@ -48,10 +48,7 @@ impl<'a> Reader<'a> {
                 bytes: &self.text[from..to],
             })
         } else {
-            Err(Fault {
-                flaw: Flaw::Ended,
-                at: self.text.len(),
-            })
+            Err(Flaw::Ended.at(self.text.len()))
         }
     }
 
@@ -62,13 +59,8 @@ impl<'a> Reader<'a> {
         ensures read { answered result (left_of self.new) ≡ numeral (length (text_of self.old)) (left_of self.old) }
     {
         let word = self.word()?;
-        match parsed(word.bytes) {
-            Some(value) => Ok(Number { value, at: word.at }),
-            None => Err(Fault {
-                flaw: Flaw::NoNumber,
-                at: word.at,
-            }),
-        }
+        let value = parsed(word.bytes).ok_or(Flaw::NoNumber.at(word.at))?;
+        Ok(Number { value, at: word.at })
     }
 
     // A number of any size.
@@ -98,10 +90,7 @@ impl<'a> Reader<'a> {
         ensures { result ≡ nothing_left tt (left_of self.old) }
     {
         match self.word() {
-            Ok(word) => Err(Fault {
-                flaw: Flaw::LeftOver,
-                at: word.at,
-            }),
+            Ok(word) => Err(Flaw::LeftOver.at(word.at)),
             Err(_) => Ok(()),
         }
     }

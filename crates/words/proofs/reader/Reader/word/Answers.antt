@@ -1,18 +1,22 @@
-use Rattle.std.proofs.Common.{sym, refl, ap, ◌∙◌}
+use Rattle.std.proofs.Common.{◌+◌, Err, sym, refl, ap, ◌∙◌}
 use Rattle.words.specs.Readings.{next, rest_of}
-use Rattle.words.proofs.Firsts.{inside, found, none, still}
+use Rattle.words.proofs.Firsts.{found, none, still}
 use Rattle.words.proofs.reader.Reader.word.Goals as goal
-
-pub slice_bounds-result-end : goal.slice_bounds-result-end
-slice_bounds-result-end c = inside c.args.self.now.text.now c.args.self.now.at _ _ c.skip_blanks-from.ensures c.run_end-to.ensures c.if-from-to.true
 
 pub returns-then-from-to : goal.returns-then-from-to
 returns-then-from-to c =
-    let e = found c.args.self.now.text.now c.args.self.now.at _ _ c.skip_blanks-from.ensures c.run_end-to.ensures c.if-from-to.true in
+    let text = c.args.self.now.text.now in
+    let at = c.args.self.now.at in
+    let from = at + c.blanks.result in
+    let e = found text at from (from + c.run.result) (ap (λ n. at + n) c.blanks.ensures.count) (ap (λ n. from + n) c.run.ensures.count) c.if-from-to.true in
     record { kept = refl; moved = sym (ap rest_of e); read = sym (ap (next _) e) }
 
 pub returns-else-from-to : goal.returns-else-from-to
 returns-else-from-to c =
-    let e = none c.args.self.now.text.now c.args.self.now.at _ _ c.skip_blanks-from.ensures c.run_end-to.ensures c.if-from-to.false in
-    let s = still c.args.self.now.text.now c.args.self.now.at _ _ c.skip_blanks-from.ensures c.run_end-to.ensures c.if-from-to.false in
-    record { kept = refl; moved = s ∙ sym (ap rest_of e); read = sym (ap (next _) e) }
+    let text = c.args.self.now.text.now in
+    let at = c.args.self.now.at in
+    let from = at + c.blanks.result in
+    let f = ap (λ n. at + n) c.blanks.ensures.count in
+    let t = ap (λ n. from + n) c.run.ensures.count in
+    let e = none text at from (from + c.run.result) f t c.if-from-to.false in
+    record { kept = refl; moved = still text at from (from + c.run.result) f t c.if-from-to.false ∙ sym (ap rest_of e); read = ap Err c.at.ensures ∙ sym (ap (next _) e) }
