@@ -22,13 +22,10 @@ fn variable(reader: &mut Reader, scope: &mut Scope, sizes: &Sizes) -> Result<(),
         (λ _ v. scope_of scope.new ≡ scope_of scope.old ++ v ∷ []) }
 {
     let number = reader.number()?;
-    if number.value > 255 {
-        return Err(number.breaks(Refusal::Scope));
-    }
-    if let Err(why) = scope.push(number.value as u8, sizes) {
-        return Err(number.breaks(why));
-    }
-    Ok(())
+    let variable = u8::try_from(number.value).map_err(|_| number.breaks(Refusal::Scope))?;
+    scope
+        .push(variable, sizes)
+        .map_err(|why| number.breaks(why))
 }
 
 // As many variables as the arity says.

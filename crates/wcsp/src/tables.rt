@@ -20,21 +20,12 @@ pub(crate) fn put(table: &mut [u32], cell: usize, cost: u32, pass: Pass)
     }
 }
 
-// The usual cost in every cell.
-fn fill(table: &mut [u32], cost: u32)
-    ensures { table.new ≡ replicate (length table.old) cost }
-{
-    for cell in table.iter_mut() {
-        *cell = cost;
-    }
-}
-
-// The same, in a writing pass.
+// The usual cost in every cell, in a writing pass.
 pub(crate) fn begin(table: &mut [u32], cost: u32, pass: Pass)
     ensures { table.new ≡ by_pass pass table.old (replicate (length table.old) cost) }
 {
     match pass {
         Pass::Checking => {}
-        Pass::Writing => fill(table, cost),
+        Pass::Writing => table.fill(cost),
     }
 }

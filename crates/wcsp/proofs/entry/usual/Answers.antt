@@ -11,12 +11,6 @@ use Rattle.words.proofs.Rulings.{rule_taken, rule_faulty}
 use Rattle.std.proofs.lemmas.Result.{err_from_is_err_and}
 use Rattle.wcsp.proofs.entry.usual.Goals as goal
 
-pub returns-in_err-number : goal.returns-in_err-number
-returns-in_err-number c =
-    let p = err_from_is_err_and c.from_residual.result c.from_residual.ensures.1 in
-    let s = c.args.reader.now in
-    record { kept = c.number.ensures.kept; read = rw (p.1, p.2) (rule_faulty (length (text_of s)) (room_rule c.args.room (outline c.args.shape.now).used (cells (outline c.args.shape.now).sizes (scope_of c.args.scope.now))) (left_of s) c.in_err-number.field-0.0 c.in_err-number.ensures.read) }
-
 pub returns-in-Ok : goal.returns-in-Ok
 returns-in-Ok c =
     let s = c.args.reader.now in
