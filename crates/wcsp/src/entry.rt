@@ -54,8 +54,7 @@ fn entry(reader: &mut Reader, shape: &mut Shape, area: &mut [u32], pass: Pass) -
     let scope = scoped(reader, &sizes)?;
     let usual = usual(reader, &scope, shape, area.len())?;
     let end = shape.used();
-    table(reader, &scope, &sizes, usual, &mut area[start..end], pass)?;
-    Ok(())
+    table(reader, &scope, &sizes, usual, &mut area[start..end], pass)
 }
 
 // So many functions.

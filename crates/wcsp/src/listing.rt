@@ -9,7 +9,7 @@ ghost use Rattle.wcsp.specs.Layouts.{listing, listed_from, listings};
 ghost use Rattle.wcsp.specs.Passes.{by_pass};
 ghost use Rattle.wcsp.specs.Tables.{amend, amended, table_of};
 
-use crate::tables::{Pass, begin, put};
+use crate::tables::Pass;
 use crate::tuples::tuple;
 use variables::scope::Scope;
 use variables::sizes::Sizes;
@@ -33,7 +33,7 @@ fn listing(
     let setting = tuple(reader, scope, sizes)?;
     let cost = reader.figure()?;
     let cell = scope.cell(sizes, &setting);
-    put(table, cell, cost, pass);
+    pass.put(table, cell, cost);
     Ok(())
 }
 
@@ -74,7 +74,6 @@ pub(crate) fn table(
         (λ _ ls. table.new ≡ by_pass pass table.old (table_of (sizes_of sizes.now) (record { scope = scope_of scope.entry.now; usual = usual; listed = ls }))) }
 {
     let count = reader.figure()?;
-    begin(table, usual, pass);
-    listed(reader, count, scope, sizes, table, pass)?;
-    Ok(())
+    pass.begin(table, usual);
+    listed(reader, count, scope, sizes, table, pass)
 }

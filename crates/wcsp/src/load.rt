@@ -59,8 +59,7 @@ pub fn load(text: &[u8], area: &mut [u32]) -> Result<Loaded, Fault>
         return Err(Refusal::Area.into());
     }
     read(text, area, Pass::Checking)?;
-    let loaded = read(text, area, Pass::Writing)?;
-    Ok(loaded)
+    read(text, area, Pass::Writing)
 }
 
 // The name that a text begins with, if it has a word.

@@ -49,6 +49,5 @@ pub(crate) fn scoped(reader: &mut Reader, sizes: &Sizes) -> Result<Scope, Fault>
         (λ s scope. (scope_of s ≡ scope) × (proper (length (sizes_of sizes.now)) scope ≡ true)) }
 {
     let arity = reader.up_to(5, Refusal::Scope)?;
-    let scope = scope(reader, arity, sizes)?;
-    Ok(scope)
+    scope(reader, arity, sizes)
 }

@@ -9,23 +9,25 @@ pub(crate) enum Pass {
     Writing,
 }
 
-// One cost, in a writing pass.
-pub(crate) fn put(table: &mut [u32], cell: usize, cost: u32, pass: Pass)
-    requires { cell < length table.old }
-    ensures { table.new ≡ by_pass pass table.old (slice_set table.old cell cost) }
-{
-    match pass {
-        Pass::Checking => {}
-        Pass::Writing => table[cell] = cost,
+impl Pass {
+    // One cost, in a writing pass.
+    pub(crate) fn put(self, table: &mut [u32], cell: usize, cost: u32)
+        requires { cell < length table.old }
+        ensures { table.new ≡ by_pass self table.old (slice_set table.old cell cost) }
+    {
+        match self {
+            Pass::Checking => {}
+            Pass::Writing => table[cell] = cost,
+        }
     }
-}
 
-// The usual cost in every cell, in a writing pass.
-pub(crate) fn begin(table: &mut [u32], cost: u32, pass: Pass)
-    ensures { table.new ≡ by_pass pass table.old (replicate (length table.old) cost) }
-{
-    match pass {
-        Pass::Checking => {}
-        Pass::Writing => table.fill(cost),
+    // The usual cost in every cell, in a writing pass.
+    pub(crate) fn begin(self, table: &mut [u32], cost: u32)
+        ensures { table.new ≡ by_pass self table.old (replicate (length table.old) cost) }
+    {
+        match self {
+            Pass::Checking => {}
+            Pass::Writing => table.fill(cost),
+        }
     }
 }

@@ -1,4 +1,3 @@
 pub mod Firsts
-pub mod Digits
 pub mod Rulings
 pub mod Steps
