@@ -17,6 +17,7 @@ use words::fault::Fault;
 use words::reader::Reader;
 
 // One tuple, and its cost into its cell of the function's table.
+// Not a struct of scope and sizes: what they are asked (a cell, a variable's size) takes the two apart again.
 fn listing(
     reader: &mut Reader,
     scope: &Scope,

@@ -3,6 +3,8 @@ ghost use Rattle.std.specs.Prelude.{◌≡◌, ◌<◌, length, replicate, slice
 ghost use Rattle.wcsp.specs.Passes.{by_pass};
 
 // A text is read twice by the same code: first to check everything, then to write.
+// Not a closure that writes: of what a closure changed, a proof knows nothing after the call that it was passed to.
+// Not a struct of table and pass: each contract would then say too that the lent table in it is still the same one.
 #[derive(Clone, Copy)]
 pub(crate) enum Pass {
     Checking,

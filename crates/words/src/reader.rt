@@ -34,6 +34,7 @@ impl<'a> Reader<'a> {
     }
 
     // The next word.
+    // Not an invariant, that the text stays (kept): it speaks of before and after, and no one value can say it.
     pub fn word(&mut self) -> Result<Word<'a>, Fault>
         ensures kept { text_of self.new ≡ text_of self.old }
         ensures moved { left_of self.new ≡ rest_of (left_of self.old) }
@@ -73,6 +74,7 @@ impl<'a> Reader<'a> {
     }
 
     // A number up to a largest one.
+    // Not a method with the rule as a closure: most rules write (a size, a scope's variable), which a proof then loses.
     pub fn up_to(&mut self, most: u32, why: Refusal) -> Result<u32, Fault>
         ensures kept { text_of self.new ≡ text_of self.old }
         ensures read { answered result (left_of self.new) ≡ number_by (length (text_of self.old)) (λ n. kept_or (nat_le n most) why) (left_of self.old) }
