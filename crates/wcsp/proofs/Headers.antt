@@ -7,7 +7,7 @@ use Rattle.words.specs.Readings.{next}
 use Rattle.words.specs.Ruled.{any, number_by}
 use Rattle.wcsp.specs.Rules.{variables_rule, count_rule}
 use Rattle.wcsp.specs.Layouts.{heading}
-use Rattle.words.specs.declared.reader.Reader.{Reader}
+use Rattle.words.specs.declared.plain.Reader.{Reader}
 use Rattle.words.specs.Readers.{text_of, left_of}
 use Rattle.wcsp.specs.Headings.{Heads}
 use Rattle.words.proofs.Rulings.{rule_kept, kept_true}

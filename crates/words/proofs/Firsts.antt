@@ -1,9 +1,13 @@
 -- The first word of a text: the blanks before it are skipped, and it goes on to the next blank.
-use Rattle.std.proofs.Common.{◌≡◌, ℕ, suc, true, false, ◌+◌, ◌-◌, ◌<◌, ◌≤◌, eqb, List, [], ◌∷◌, take, drop, sym, refl, ap, ◌∙◌, inl, inr, add-zero, arith}
-use Rattle.std.proofs.lemmas.List.{drop-drop}
+use Rattle.std.proofs.Common.{◌≡◌, ℕ, suc, true, false, ◌+◌, ◌-◌, ◌<◌, ◌≤◌, eqb, List, [], ◌∷◌, length, take, drop, length-drop, sym, refl, ap, ◌∙◌, inl, inr, add-zero, arith}
+use Rattle.std.proofs.lemmas.List.{drop-drop, take_all}
 use Rattle.std.proofs.lemmas.Bool.{cond-true, cond-false, cond_both, cases_Bool, eq-eqb, ne_eqb}
 use Rattle.words.specs.Words.{Word, blank, begun, words_from, left}
 use Rattle.words.specs.Runs.{blanks, run}
+
+-- the rest of a text from an offset on, as a part of it
+pub rest_whole : (text : List ℕ) (at : ℕ) → take (length text - at) (drop at text) ≡ drop at text
+rest_whole text at = take_all (length text - at) (drop at text) (omega (arith, length-drop at text))
 
 -- how a first byte counts
 blank_first : (b : ℕ) (text : List ℕ) → blank b ≡ true → blanks (b ∷ text) ≡ suc (blanks text)

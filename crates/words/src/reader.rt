@@ -7,6 +7,7 @@ ghost use Rattle.words.specs.Readers.{text_of, left_of, seen};
 
 use crate::fault::{Fault, Flaw};
 use crate::number::{Number, parsed};
+pub use crate::plain::Reader;
 use crate::run::{blanks, run};
 use variables::refusal::Refusal;
 
@@ -15,13 +16,6 @@ use variables::refusal::Refusal;
 pub struct Word<'a> {
     pub at: usize,
     pub bytes: &'a [u8],
-}
-
-// What is before `at` has been read.
-#[derive(Drop)]
-pub struct Reader<'a> {
-    text: &'a [u8],
-    at: usize,
 }
 
 impl<'a> Reader<'a> {
@@ -40,8 +34,8 @@ impl<'a> Reader<'a> {
         ensures moved { left_of self.new ≡ rest_of (left_of self.old) }
         ensures read { answered (seen result) (left_of self.new) ≡ next (length (text_of self.old)) (left_of self.old) }
     {
-        let from = self.at + blanks(self.text, self.at);
-        let to = from + run(self.text, from);
+        let from = self.at + blanks(&self.text[self.at..]);
+        let to = from + run(&self.text[from..]);
         self.at = to;
         if from < to {
             Ok(Word {
