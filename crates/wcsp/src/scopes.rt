@@ -29,7 +29,7 @@ fn variable(reader: &mut Reader, scope: &mut Scope, sizes: &Sizes) -> Result<(),
 }
 
 // As many variables as the arity says.
-// Not a try_for_each: its closure would read and write what the proof has to know afterwards.
+// Not a try_for_each: of what its closure changed, the reader and the scope, a proof knows nothing afterwards.
 fn scope(reader: &mut Reader, arity: u32, sizes: &Sizes) -> Result<Scope, Fault>
     requires { arity ≤ 5 }
     ensures kept { text_of reader.new ≡ text_of reader.old }

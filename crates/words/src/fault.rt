@@ -34,6 +34,7 @@ impl Flaw {
     }
 
     // The number by which callers know it.
+    // Not a cast of the variant: two of them carry a refusal.
     pub fn number(self) -> u8
         ensures { result ≡ flaw_number self }
     {
