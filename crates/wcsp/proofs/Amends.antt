@@ -1,12 +1,11 @@
 -- Listed tuples, written into a table.
-use Rattle.std.proofs.Common.{◌≡◌, ℕ, ◌<◌, true, List, [], ◌∷◌, ◌++◌, length, Ok, Err, sym, refl, ap, ◌∙◌, arith}
+use Rattle.std.proofs.Common.{◌≡◌, ℕ, ◌<◌, true, List, [], ◌∷◌, ◌++◌, length, Ok, sym, refl, ap, ◌∙◌, arith}
 use Rattle.variables.specs.Assignments.{of, along, cells, cell_from}
 use Rattle.variables.specs.Rules.{fits}
 use Rattle.problems.proofs.Bounds.{cell_below, fits_ranged}
 use Rattle.variables.proofs.Tuples.{same_cell}
 use Rattle.wcsp.specs.declared.tables.Pass.{Pass}
 use Rattle.wcsp.specs.declared.tables.Pass.TheVariants.{Checking, Writing}
-use Rattle.words.specs.declared.fault.Fault.{Fault}
 use Rattle.words.specs.Words.{Word}
 use Rattle.words.specs.Ruled.{any, number_by}
 use Rattle.wcsp.specs.Layouts.{Listed, tuple_from, listing}
@@ -26,14 +25,6 @@ pub listing_read : (text text₁ sizes scope tuple : List ℕ) (cost : ℕ) (wor
     → listing (length text) sizes scope words ≡ Ok (record { tuple = tuple; cost = cost }, ws₂)
 listing_read text text₁ sizes scope tuple cost words ws₁ ws₂ k t n = cc
 
--- a listing that ends at a fault, in its tuple or at its cost
-pub tuple_fault : (text sizes scope : List ℕ) (words : List Word) (e : Fault) → tuple_from (length text) sizes scope [] words ≡ Err e → listing (length text) sizes scope words ≡ Err e
-tuple_fault text sizes scope words e t = cc
-
-pub cost_fault : (text text₁ sizes scope tuple : List ℕ) (words ws₁ : List Word) (e : Fault) → text₁ ≡ text
-    → tuple_from (length text) sizes scope [] words ≡ Ok (tuple, ws₁) → Err e ≡ number_by (length text₁) any ws₁ → listing (length text) sizes scope words ≡ Err e
-cost_fault text text₁ sizes scope tuple words ws₁ e k t n = cc
-
 pub amended_push : (sizes scope table : List ℕ) (ls : List Listed) (one : Listed) → amended sizes scope table (ls ++ one ∷ []) ≡ amend sizes scope (amended sizes scope table ls) one
 amended_push sizes scope table [] one = refl
 amended_push sizes scope table (l ∷ ls) one = amended_push sizes scope (amend sizes scope table l) ls one
@@ -47,7 +38,3 @@ pass_none Writing old new h = sym h
 pub pass_more : {A : Type 0} (pass : Pass) (old was now new : A) (change : A → A) → was ≡ by_pass pass old new → now ≡ by_pass pass was (change was) → now ≡ by_pass pass old (change new)
 pass_more Checking old was now new change h k = k ∙ h
 pass_more Writing old was now new change h k = k ∙ ap change h
-
-pub pass_checked : {A : Type 0} (pass : Pass) (old now new : A) → now ≡ by_pass pass old new → pass ≡ Checking → now ≡ old
-pass_checked Checking old now new h e = h
-pass_checked Writing old now new h e = absurd (let z : ◌≡◌ {A = ℕ} 0 1 = cc in omega arith)

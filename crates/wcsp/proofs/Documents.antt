@@ -5,7 +5,7 @@ use Rattle.problems.specs.Outlines.{Outline, opened, entered, problem}
 use Rattle.variables.specs.Assignments.{cells}
 use Rattle.problems.specs.Records.{Placed, function_in}
 use Rattle.wcsp.specs.declared.heading.Heading.{Heading as Kept}
-use Rattle.words.specs.declared.reader.Reader.{Reader}
+use Rattle.words.specs.declared.plain.Reader.{Reader}
 use Rattle.words.specs.Words.{Word, words}
 use Rattle.words.specs.Readers.{text_of, left_of}
 use Rattle.wcsp.specs.Headings.{Heads}

@@ -11,4 +11,3 @@ pub mod Sound
 pub mod Prices
 pub mod Inside
 pub mod Names
-pub mod Scopings

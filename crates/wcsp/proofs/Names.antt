@@ -4,8 +4,8 @@ use Rattle.words.specs.Words.{Word, name_of}
 use Rattle.words.specs.Readings.{Reading, and_then, next}
 use Rattle.words.specs.Ruled.{any, number_by}
 use Rattle.wcsp.specs.Rules.{variables_rule, count_rule}
-use Rattle.wcsp.specs.Layouts.{Heading, Document, heading, sizes_from, entries_from, document}
-use Rattle.wcsp.proofs.Sound.{then_inv, ok_value, all_inv}
+use Rattle.wcsp.specs.Layouts.{Heading, Document, heading, document}
+use Rattle.wcsp.proofs.Sound.{then_inv, ok_value, document_parts}
 
 first_name : (stop : ℕ) (words : List Word) (w : Word) (left : List Word) → next stop words ≡ Ok (w, left) → name_of words ≡ Some w.bytes
 first_name stop [] w left h = grind arith
@@ -37,17 +37,5 @@ heading_name stop words h left k =
 
 pub document_name : (stop area : ℕ) (words : List Word) (d : Document) → document stop area words ≡ Ok d → name_of words ≡ Some d.name
 document_name stop area words d h =
-    let P : Document → Type 0 = λ d. name_of words ≡ Some d.name in
-    let m = all_inv (and_then (heading stop words) (λ h ws₁.
-    and_then (sizes_from stop h.largest h.variables [] ws₁) (λ sizes ws₂.
-    and_then (entries_from stop area sizes h.functions 2 [] ws₂) (λ entries ws₃.
-    Ok (record { name = h.name; upper = h.upper; sizes = sizes; entries = entries }, ws₃))))) d h in
-    let first = then_inv (heading stop words) (λ h ws₁.
-    and_then (sizes_from stop h.largest h.variables [] ws₁) (λ sizes ws₂.
-    and_then (entries_from stop area sizes h.functions 2 [] ws₂) (λ entries ws₃.
-    Ok (record { name = h.name; upper = h.upper; sizes = sizes; entries = entries }, ws₃)))) d [] m in
-    let g = first.0 in
-    let named = heading_name stop words g first.1.0 first.1.1 in
-    always_then P (sizes_from stop g.largest g.variables [] first.1.0) _ (λ sizes ws₂.
-    always_then P (entries_from stop area sizes g.functions 2 [] ws₂) _ (λ entries ws₃ x left e.
-    named ∙ ap (λ (d : Document). Some d.name) (ok_value (record { name = g.name; upper = g.upper; sizes = sizes; entries = entries }) x ws₃ left e))) d [] first.1.2
+    let p = document_parts stop area words d h in
+    heading_name stop words p.h p.ws₁ p.heads ∙ ap Some p.name

@@ -11,7 +11,7 @@ use Rattle.words.specs.Words.{Word}
 use Rattle.words.specs.Readings.{Reading, and_then, nothing_left}
 use Rattle.words.specs.Ruled.{any, number_by}
 use Rattle.wcsp.specs.Rules.{arity_rule, variable_rule, room_rule, value_rule}
-use Rattle.wcsp.specs.Layouts.{Listed, Entry, Document, heading, sizes_from, scope_from, scoped, tuple_from, listing, listed_from, listings, entry, entries_from, all_of, document}
+use Rattle.wcsp.specs.Layouts.{Listed, Entry, Heading, Document, heading, sizes_from, scope_from, scoped, tuple_from, listing, listed_from, listings, entry, entries_from, all_of, document}
 use Rattle.words.proofs.Rulings.{rule_kept, kept_true}
 
 -- what was read after something was
@@ -21,6 +21,82 @@ then_inv (Err e) f y left h = absurd (let z : ◌≡◌ {A = ℕ} 0 1 = cc in om
 
 pub ok_value : {A : Type 0} (x y : A) (ws left : List Word) → ◌≡◌ {A = Reading A} (Ok (x, ws)) (Ok (y, left)) → x ≡ y
 ok_value {A} x y ws left h = let e : ◌≡◌ {A = A × List Word} (x, ws) (y, left) = cc in ap (λ p. p.0) e
+
+-- the parts of a function that was read
+pub record EntryParts (stop area : ℕ) (sizes : List ℕ) (used : ℕ) (words : List Word) (e : Entry) : Type 0 where
+  pub ws₁ : List Word
+  pub ws₂ : List Word
+  pub ws₃ : List Word
+  pub scope : scoped stop (length sizes) words ≡ Ok (e.scope, ws₁)
+  pub usual : number_by stop (room_rule area used (cells sizes e.scope)) ws₁ ≡ Ok (e.usual, ws₂)
+  pub listed : listings stop sizes e.scope ws₂ ≡ Ok (e.listed, ws₃)
+
+pub entry_parts : (stop area : ℕ) (sizes : List ℕ) (used : ℕ) (words : List Word) (e : Entry) (left : List Word) → entry stop area sizes used words ≡ Ok (e, left) → EntryParts stop area sizes used words e
+entry_parts stop area sizes used words e left h =
+    let a = then_inv (scoped stop (length sizes) words) (λ scope ws₁.
+    and_then (number_by stop (room_rule area used (cells sizes scope)) ws₁) (λ usual ws₂.
+    and_then (listings stop sizes scope ws₂) (λ listed ws₃.
+    Ok (record { scope = scope; usual = usual; listed = listed }, ws₃)))) e left h in
+    let scope = a.0 in
+    let b = then_inv (number_by stop (room_rule area used (cells sizes scope)) a.1.0) (λ usual ws₂.
+    and_then (listings stop sizes scope ws₂) (λ listed ws₃.
+    Ok (record { scope = scope; usual = usual; listed = listed }, ws₃))) e left a.1.2 in
+    let c = then_inv (listings stop sizes scope b.1.0) (λ listed ws₃. Ok (record { scope = scope; usual = b.0; listed = listed }, ws₃)) e left b.1.2 in
+    let is = ok_value (record { scope = scope; usual = b.0; listed = c.0 }) e c.1.0 left c.1.2 in
+    subst (EntryParts stop area sizes used words) is (record {
+      ws₁ = a.1.0;
+      ws₂ = b.1.0;
+      ws₃ = c.1.0;
+      scope = a.1.1;
+      usual = b.1.1;
+      listed = c.1.1;
+    })
+
+left_inv : (x : Document) (ws : List Word) (d : Document) → nothing_left x ws ≡ Ok d → ◌≡◌ {A = Reading Document} (Ok (x, ws)) (Ok (d, []))
+left_inv x [] d h = cc
+left_inv x (w ∷ ws) d h = absurd (let z : ◌≡◌ {A = ℕ} 0 1 = cc in omega arith)
+
+pub all_inv : (m : Reading Document) (d : Document) → all_of m ≡ Ok d → m ≡ Ok (d, [])
+all_inv (Ok p) d h = left_inv p.0 p.1 d h
+all_inv (Err e) d h = absurd (let z : ◌≡◌ {A = ℕ} 0 1 = cc in omega arith)
+
+-- the parts of a whole text that was read
+pub record Parts (stop area : ℕ) (words : List Word) (d : Document) : Type 0 where
+  pub h : Heading
+  pub ws₁ : List Word
+  pub ws₂ : List Word
+  pub ws₃ : List Word
+  pub name : h.name ≡ d.name
+  pub heads : heading stop words ≡ Ok (h, ws₁)
+  pub sizes : sizes_from stop h.largest h.variables [] ws₁ ≡ Ok (d.sizes, ws₂)
+  pub entries : entries_from stop area d.sizes h.functions 2 [] ws₂ ≡ Ok (d.entries, ws₃)
+
+pub document_parts : (stop area : ℕ) (words : List Word) (d : Document) → document stop area words ≡ Ok d → Parts stop area words d
+document_parts stop area words d h =
+    let m = all_inv (and_then (heading stop words) (λ h ws₁.
+    and_then (sizes_from stop h.largest h.variables [] ws₁) (λ sizes ws₂.
+    and_then (entries_from stop area sizes h.functions 2 [] ws₂) (λ entries ws₃.
+    Ok (record { name = h.name; upper = h.upper; sizes = sizes; entries = entries }, ws₃))))) d h in
+    let a = then_inv (heading stop words) (λ h ws₁.
+    and_then (sizes_from stop h.largest h.variables [] ws₁) (λ sizes ws₂.
+    and_then (entries_from stop area sizes h.functions 2 [] ws₂) (λ entries ws₃.
+    Ok (record { name = h.name; upper = h.upper; sizes = sizes; entries = entries }, ws₃)))) d [] m in
+    let b = then_inv (sizes_from stop a.0.largest a.0.variables [] a.1.0) (λ sizes ws₂.
+    and_then (entries_from stop area sizes a.0.functions 2 [] ws₂) (λ entries ws₃.
+    Ok (record { name = a.0.name; upper = a.0.upper; sizes = sizes; entries = entries }, ws₃))) d [] a.1.2 in
+    let c = then_inv (entries_from stop area b.0 a.0.functions 2 [] b.1.0) (λ entries ws₃.
+    Ok (record { name = a.0.name; upper = a.0.upper; sizes = b.0; entries = entries }, ws₃)) d [] b.1.2 in
+    let is = ok_value (record { name = a.0.name; upper = a.0.upper; sizes = b.0; entries = c.0 }) d c.1.0 [] c.1.2 in
+    subst (Parts stop area words) is (record {
+      h = a.0;
+      ws₁ = a.1.0;
+      ws₂ = b.1.0;
+      ws₃ = c.1.0;
+      name = refl;
+      heads = a.1.1;
+      sizes = b.1.1;
+      entries = c.1.1;
+    })
 
 module _ (stop : ℕ) (sizes : List ℕ) where
   tuple_fits : (vs done : List ℕ) (words : List Word) (tuple : List ℕ) (left : List Word) → tuple_from stop sizes vs done words ≡ Ok (tuple, left)
@@ -71,21 +147,11 @@ module _ (stop : ℕ) (sizes : List ℕ) where
 
   entry_sound : (area used : ℕ) (words : List Word) (e : Entry) (left : List Word) → entry stop area sizes used words ≡ Ok (e, left) → Sound e
   entry_sound area used words e left h =
-      let a = then_inv (scoped stop (length sizes) words) (λ scope ws₁.
-      and_then (number_by stop (room_rule area used (cells sizes scope)) ws₁) (λ usual ws₂.
-      and_then (listings stop sizes scope ws₂) (λ listed ws₃.
-      Ok (record { scope = scope; usual = usual; listed = listed }, ws₃)))) e left h in
-      let scope = a.0 in
-      let b = then_inv (number_by stop (room_rule area used (cells sizes scope)) a.1.0) (λ usual ws₂.
-      and_then (listings stop sizes scope ws₂) (λ listed ws₃.
-      Ok (record { scope = scope; usual = usual; listed = listed }, ws₃))) e left a.1.2 in
-      let c = then_inv (listings stop sizes scope b.1.0) (λ listed ws₃. Ok (record { scope = scope; usual = b.0; listed = listed }, ws₃)) e left b.1.2 in
-      let is = ok_value (record { scope = scope; usual = b.0; listed = c.0 }) e c.1.0 left c.1.2 in
-      let s = then_inv (number_by stop arity_rule words) (λ arity ws. scope_from stop (length sizes) arity [] ws) scope a.1.0 a.1.1 in
-      let l = then_inv (number_by stop any b.1.0) (λ count ws. listed_from stop sizes scope count [] ws) c.0 c.1.0 c.1.1 in
-      subst Sound is (
-        scope_distinct (length sizes) s.0 [] s.1.0 scope a.1.0 refl s.1.2,
-        listed_fit scope l.0 [] l.1.0 c.0 c.1.0 tt l.1.2,
+      let p = entry_parts stop area sizes used words e left h in
+      let s = then_inv (number_by stop arity_rule words) (λ arity ws. scope_from stop (length sizes) arity [] ws) e.scope p.ws₁ p.scope in
+      let l = then_inv (number_by stop any p.ws₂) (λ count ws. listed_from stop sizes e.scope count [] ws) e.listed p.ws₃ p.listed in (
+        scope_distinct (length sizes) s.0 [] s.1.0 e.scope p.ws₁ refl s.1.2,
+        listed_fit e.scope l.0 [] l.1.0 e.listed p.ws₃ tt l.1.2,
       )
 
   abbrev pub AllSound : List Entry → Type 0
@@ -102,29 +168,8 @@ module _ (stop : ℕ) (sizes : List ℕ) where
       let a = then_inv (entry stop area sizes used words) (λ e ws. entries_from stop area sizes k (used + cells sizes e.scope) (done ++ e ∷ []) ws) es left h in
       entries_sound area k (used + cells sizes a.0.scope) (done ++ a.0 ∷ []) a.1.0 es left (sound_push done a.0 all (entry_sound area used words a.0 a.1.0 a.1.1)) a.1.2
 
-left_inv : (x : Document) (ws : List Word) (d : Document) → nothing_left x ws ≡ Ok d → ◌≡◌ {A = Reading Document} (Ok (x, ws)) (Ok (d, []))
-left_inv x [] d h = cc
-left_inv x (w ∷ ws) d h = absurd (let z : ◌≡◌ {A = ℕ} 0 1 = cc in omega arith)
-
-pub all_inv : (m : Reading Document) (d : Document) → all_of m ≡ Ok d → m ≡ Ok (d, [])
-all_inv (Ok p) d h = left_inv p.0 p.1 d h
-all_inv (Err e) d h = absurd (let z : ◌≡◌ {A = ℕ} 0 1 = cc in omega arith)
-
 -- the functions of a text that was read keep the rules
 pub document_sound : (stop area : ℕ) (words : List Word) (d : Document) → document stop area words ≡ Ok d → AllSound stop d.sizes d.entries
 document_sound stop area words d h =
-    let m = all_inv (and_then (heading stop words) (λ h ws₁.
-    and_then (sizes_from stop h.largest h.variables [] ws₁) (λ sizes ws₂.
-    and_then (entries_from stop area sizes h.functions 2 [] ws₂) (λ entries ws₃.
-    Ok (record { name = h.name; upper = h.upper; sizes = sizes; entries = entries }, ws₃))))) d h in
-    let a = then_inv (heading stop words) (λ h ws₁.
-    and_then (sizes_from stop h.largest h.variables [] ws₁) (λ sizes ws₂.
-    and_then (entries_from stop area sizes h.functions 2 [] ws₂) (λ entries ws₃.
-    Ok (record { name = h.name; upper = h.upper; sizes = sizes; entries = entries }, ws₃)))) d [] m in
-    let b = then_inv (sizes_from stop a.0.largest a.0.variables [] a.1.0) (λ sizes ws₂.
-    and_then (entries_from stop area sizes a.0.functions 2 [] ws₂) (λ entries ws₃.
-    Ok (record { name = a.0.name; upper = a.0.upper; sizes = sizes; entries = entries }, ws₃))) d [] a.1.2 in
-    let c = then_inv (entries_from stop area b.0 a.0.functions 2 [] b.1.0) (λ entries ws₃.
-    Ok (record { name = a.0.name; upper = a.0.upper; sizes = b.0; entries = entries }, ws₃)) d [] b.1.2 in
-    let is = ok_value (record { name = a.0.name; upper = a.0.upper; sizes = b.0; entries = c.0 }) d c.1.0 [] c.1.2 in
-    subst (λ (d : Document). AllSound stop d.sizes d.entries) is (entries_sound stop b.0 area a.0.functions 2 [] b.1.0 c.0 c.1.0 tt c.1.1)
+    let p = document_parts stop area words d h in
+    entries_sound stop d.sizes area p.h.functions 2 [] p.ws₂ d.entries p.ws₃ tt p.entries

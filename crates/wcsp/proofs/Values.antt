@@ -1,13 +1,12 @@
 -- One more value of a tuple.
-use Rattle.std.proofs.Common.{◌≡◌, ℕ, ◌+◌, ◌<◌, ◌≤◌, true, cond, ltb, List, [], ◌∷◌, ◌++◌, length, get_or, take, drop, set, Ok, Err, sym, ap, ◌∙◌, inl, inr, arith}
-use Rattle.std.proofs.lemmas.List.{at_drop_more, at_drop_all, take_more, get_or-set_same, get_or-set_other}
+use Rattle.std.proofs.Common.{◌≡◌, ℕ, ◌+◌, ◌<◌, true, cond, ltb, List, [], ◌∷◌, ◌++◌, length, get_or, take, drop, set, Ok, sym, ap, ◌∙◌, inl, inr, arith}
+use Rattle.std.proofs.lemmas.List.{at_drop_more, take_more, get_or-set_same, get_or-set_other}
 use Rattle.std.proofs.lemmas.Bool.{cases_eq, eq-eqb, ne_eqb}
 use Rattle.variables.specs.Lists.{distinct}
 use Rattle.variables.specs.Assignments.{along}
 use Rattle.variables.specs.Rules.{fits}
 use Rattle.variables.proofs.Tuples.{along_push, absent, fits_length}
 use Rattle.variables.specs.declared.refusal.Refusal.TheVariants.{Tuple}
-use Rattle.words.specs.declared.fault.Fault.{Fault}
 use Rattle.words.specs.Words.{Word}
 use Rattle.words.specs.Readings.{Reading, and_then}
 use Rattle.wcsp.specs.Rules.{value_rule}
@@ -24,9 +23,6 @@ module _ (stop : ℕ) (sizes vs : List ℕ) (i : ℕ) (done : List ℕ) (words :
 
   pub value_more : (value : ℕ) (left : List Word) → one ≡ Ok (value, left) → tuple_from stop sizes (drop i vs) done words ≡ tuple_from stop sizes (drop (i + 1) vs) (done ++ value ∷ []) left
   value_more value left e = split ∙ ap (λ m. and_then m (λ value ws. tuple_from stop sizes (drop (i + 1) vs) (done ++ value ∷ []) ws)) e
-
-  pub value_fault : (e : Fault) → one ≡ Err e → tuple_from stop sizes (drop i vs) done words ≡ Err e
-  value_fault e k = split ∙ ap (λ m. and_then m (λ value ws. tuple_from stop sizes (drop (i + 1) vs) (done ++ value ∷ []) ws)) k
 
   pub value_below : (value : ℕ) (left : List Word) → one ≡ Ok (value, left) → ltb value (get_or sizes (get_or vs i 0) 0) ≡ true
   value_below value left e = kept_true (ltb value (get_or sizes (get_or vs i 0) 0)) Tuple (rule_kept stop (value_rule (get_or sizes (get_or vs i 0) 0)) words value left e)
@@ -51,8 +47,3 @@ module _ (sizes vs done slots : List ℕ) (i x : ℕ) (h : i < length vs) (fit :
         | inl e ↦ ap (λ w. get_or (set slots u x) w 0) e ∙ get_or-set_same slots u x 0 room ∙ sym (push ∙ ap (λ b. cond b x (along (take i vs) done v)) (eq-eqb u v (sym e)))
         | inr n ↦ get_or-set_other slots u v x 0 n ∙ before v ∙ sym (push ∙ ap (λ b. cond b x (along (take i vs) done v)) (ne_eqb u v (λ e. n (sym e))))
       ])
-
--- all values are given
-module _ (stop : ℕ) (sizes vs : List ℕ) (i : ℕ) (done : List ℕ) (words : List Word) (h : length vs ≤ i) where
-  pub value_end : tuple_from stop sizes (drop i vs) done words ≡ Ok (done, words)
-  value_end = at_drop_all (λ us. tuple_from stop sizes us done words) vs i h

@@ -20,17 +20,10 @@ fn size(reader: &mut Reader, largest: u32, sizes: &mut Sizes) -> Result<(), Faul
         (λ _ size. sizes_of sizes.new ≡ sizes_of sizes.old ++ size ∷ []) }
 {
     let number = reader.number()?;
-    if number.value > 255 {
-        return Err(number.breaks(Refusal::Size));
-    }
-    if let Err(why) = sizes.push(number.value as u8) {
-        return Err(number.breaks(why));
-    }
+    let size = u8::try_from(number.value).map_err(|_| number.breaks(Refusal::Size))?;
+    sizes.push(size).map_err(|why| number.breaks(why))?;
     if number.value > largest {
-        return Err(Fault {
-            flaw: Flaw::AboveMaximum,
-            at: number.at,
-        });
+        return Err(Flaw::AboveMaximum.at(number.at));
     }
     Ok(())
 }

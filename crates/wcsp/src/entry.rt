@@ -32,6 +32,7 @@ fn usual(reader: &mut Reader, scope: &Scope, shape: &mut Shape, room: usize) -> 
         (λ n usual. (n ≡ usual) × (outline shape.new ≡ entered (outline shape.old) (scope_of scope.now))) }
 {
     let number = reader.number()?;
+    // Not a map_err: after it the proof no longer finds which row of the table refused.
     match shape.enter(scope.variables(), room) {
         Ok(_) => Ok(number.value),
         Err(why) => Err(number.breaks(why)),
@@ -53,8 +54,7 @@ fn entry(reader: &mut Reader, shape: &mut Shape, area: &mut [u32], pass: Pass) -
     let scope = scoped(reader, &sizes)?;
     let usual = usual(reader, &scope, shape, area.len())?;
     let end = shape.used();
-    table(reader, &scope, &sizes, usual, &mut area[start..end], pass)?;
-    Ok(())
+    table(reader, &scope, &sizes, usual, &mut area[start..end], pass)
 }
 
 // So many functions.

@@ -27,7 +27,7 @@ fn variables(reader: &mut Reader) -> Result<u32, Fault>
     ensures read { answered result (left_of reader.new) ≡ number_by (length (text_of reader.old)) variables_rule (left_of reader.old) }
 {
     let number = reader.number()?;
-    if number.value >= 1 && number.value <= 32 {
+    if (1..=32).contains(&number.value) {
         Ok(number.value)
     } else {
         Err(number.breaks(Refusal::Variables))

@@ -9,7 +9,7 @@ ghost use Rattle.wcsp.specs.Layouts.{listing, listed_from, listings};
 ghost use Rattle.wcsp.specs.Passes.{by_pass};
 ghost use Rattle.wcsp.specs.Tables.{amend, amended, table_of};
 
-use crate::tables::{Pass, begin, put};
+use crate::tables::Pass;
 use crate::tuples::tuple;
 use variables::scope::Scope;
 use variables::sizes::Sizes;
@@ -17,6 +17,7 @@ use words::fault::Fault;
 use words::reader::Reader;
 
 // One tuple, and its cost into its cell of the function's table.
+// Not a struct of scope and sizes: what they are asked (a cell, a variable's size) takes the two apart again.
 fn listing(
     reader: &mut Reader,
     scope: &Scope,
@@ -33,7 +34,7 @@ fn listing(
     let setting = tuple(reader, scope, sizes)?;
     let cost = reader.figure()?;
     let cell = scope.cell(sizes, &setting);
-    put(table, cell, cost, pass);
+    pass.put(table, cell, cost);
     Ok(())
 }
 
@@ -74,7 +75,6 @@ pub(crate) fn table(
         (λ _ ls. table.new ≡ by_pass pass table.old (table_of (sizes_of sizes.now) (record { scope = scope_of scope.entry.now; usual = usual; listed = ls }))) }
 {
     let count = reader.figure()?;
-    begin(table, usual, pass);
-    listed(reader, count, scope, sizes, table, pass)?;
-    Ok(())
+    pass.begin(table, usual);
+    listed(reader, count, scope, sizes, table, pass)
 }

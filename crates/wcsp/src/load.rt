@@ -11,6 +11,8 @@ use crate::domains::sizes;
 use crate::entry::entries;
 use crate::heading::read_heading;
 use crate::tables::Pass;
+// How many cells an area has at most.
+pub use problems::shape::MOST_CELLS;
 use problems::shape::Shape;
 use variables::refusal::Refusal;
 use words::fault::{Fault, Flaw};
@@ -18,8 +20,6 @@ use words::reader::Reader;
 
 // How many bytes a text has at most.
 pub const MOST_BYTES: usize = 65_535;
-// How many cells an area has at most.
-pub const MOST_CELLS: usize = 16_384;
 
 // The job that a text describes, its tables in the area, and the upper bound that the text states.
 #[derive(Clone, Copy)]
@@ -53,20 +53,13 @@ pub fn load(text: &[u8], area: &mut [u32]) -> Result<Loaded, Fault>
     ensures { Outcome (loading text.now (length area.old)) result area.old area.new }
 {
     if text.len() > MOST_BYTES {
-        return Err(Fault {
-            flaw: Flaw::TextLength,
-            at: 0,
-        });
+        return Err(Flaw::TextLength.at(0));
     }
     if area.len() < 2 || area.len() > MOST_CELLS {
-        return Err(Fault {
-            flaw: Flaw::Job(Refusal::Area),
-            at: 0,
-        });
+        return Err(Refusal::Area.into());
     }
     read(text, area, Pass::Checking)?;
-    let loaded = read(text, area, Pass::Writing)?;
-    Ok(loaded)
+    read(text, area, Pass::Writing)
 }
 
 // The name that a text begins with, if it has a word.
@@ -74,8 +67,5 @@ pub fn name(text: &[u8]) -> Option<&[u8]>
     ensures { option_map (λ x. x.now) result ≡ name_of (words text.now) }
 {
     let mut reader = Reader::new(text);
-    match reader.word() {
-        Ok(word) => Some(word.bytes),
-        Err(_) => None,
-    }
+    reader.word().ok().map(|word| word.bytes)
 }

@@ -22,16 +22,14 @@ fn variable(reader: &mut Reader, scope: &mut Scope, sizes: &Sizes) -> Result<(),
         (λ _ v. scope_of scope.new ≡ scope_of scope.old ++ v ∷ []) }
 {
     let number = reader.number()?;
-    if number.value > 255 {
-        return Err(number.breaks(Refusal::Scope));
-    }
-    if let Err(why) = scope.push(number.value as u8, sizes) {
-        return Err(number.breaks(why));
-    }
-    Ok(())
+    let variable = u8::try_from(number.value).map_err(|_| number.breaks(Refusal::Scope))?;
+    scope
+        .push(variable, sizes)
+        .map_err(|why| number.breaks(why))
 }
 
 // As many variables as the arity says.
+// Not a try_for_each: of what its closure changed, the reader and the scope, a proof knows nothing afterwards.
 fn scope(reader: &mut Reader, arity: u32, sizes: &Sizes) -> Result<Scope, Fault>
     requires { arity ≤ 5 }
     ensures kept { text_of reader.new ≡ text_of reader.old }
@@ -52,6 +50,5 @@ pub(crate) fn scoped(reader: &mut Reader, sizes: &Sizes) -> Result<Scope, Fault>
         (λ s scope. (scope_of s ≡ scope) × (proper (length (sizes_of sizes.now)) scope ≡ true)) }
 {
     let arity = reader.up_to(5, Refusal::Scope)?;
-    let scope = scope(reader, arity, sizes)?;
-    Ok(scope)
+    scope(reader, arity, sizes)
 }

@@ -3,38 +3,33 @@ ghost use Rattle.std.specs.Prelude.{◌≡◌, ◌<◌, length, replicate, slice
 ghost use Rattle.wcsp.specs.Passes.{by_pass};
 
 // A text is read twice by the same code: first to check everything, then to write.
+// Not a closure that writes: of what a closure changed, a proof knows nothing after the call that it was passed to.
+// Not a struct of table and pass: each contract would then say too that the lent table in it is still the same one.
 #[derive(Clone, Copy)]
 pub(crate) enum Pass {
     Checking,
     Writing,
 }
 
-// One cost, in a writing pass.
-pub(crate) fn put(table: &mut [u32], cell: usize, cost: u32, pass: Pass)
-    requires { cell < length table.old }
-    ensures { table.new ≡ by_pass pass table.old (slice_set table.old cell cost) }
-{
-    match pass {
-        Pass::Checking => {}
-        Pass::Writing => table[cell] = cost,
+impl Pass {
+    // One cost, in a writing pass.
+    pub(crate) fn put(self, table: &mut [u32], cell: usize, cost: u32)
+        requires { cell < length table.old }
+        ensures { table.new ≡ by_pass self table.old (slice_set table.old cell cost) }
+    {
+        match self {
+            Pass::Checking => {}
+            Pass::Writing => table[cell] = cost,
+        }
     }
-}
 
-// The usual cost in every cell.
-fn fill(table: &mut [u32], cost: u32)
-    ensures { table.new ≡ replicate (length table.old) cost }
-{
-    for cell in table.iter_mut() {
-        *cell = cost;
-    }
-}
-
-// The same, in a writing pass.
-pub(crate) fn begin(table: &mut [u32], cost: u32, pass: Pass)
-    ensures { table.new ≡ by_pass pass table.old (replicate (length table.old) cost) }
-{
-    match pass {
-        Pass::Checking => {}
-        Pass::Writing => fill(table, cost),
+    // The usual cost in every cell, in a writing pass.
+    pub(crate) fn begin(self, table: &mut [u32], cost: u32)
+        ensures { table.new ≡ by_pass self table.old (replicate (length table.old) cost) }
+    {
+        match self {
+            Pass::Checking => {}
+            Pass::Writing => table.fill(cost),
+        }
     }
 }

@@ -22,11 +22,10 @@ fn value(reader: &mut Reader, size: u8) -> Result<u8, Fault>
     ensures read { answered result (left_of reader.new) ≡ number_by (length (text_of reader.old)) (value_rule size) (left_of reader.old) }
 {
     let number = reader.number()?;
-    if number.value < size as u32 {
-        Ok(number.value as u8)
-    } else {
-        Err(number.breaks(Refusal::Tuple))
-    }
+    let value = u8::try_from(number.value)
+        .ok()
+        .filter(|value| *value < size);
+    value.ok_or(number.breaks(Refusal::Tuple))
 }
 
 // A value for each variable of a scope.

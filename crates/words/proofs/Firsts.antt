@@ -1,9 +1,26 @@
 -- The first word of a text: the blanks before it are skipped, and it goes on to the next blank.
-use Rattle.std.proofs.Common.{◌≡◌, ℕ, suc, ◌+◌, ◌-◌, ◌<◌, ◌≤◌, eqb, List, [], ◌∷◌, length, take, drop, sym, refl, ap, ◌∙◌, inl, inr, add-zero, arith, length-drop}
-use Rattle.std.proofs.lemmas.List.{drop-drop}
+use Rattle.std.proofs.Common.{◌≡◌, ℕ, suc, true, false, ◌+◌, ◌-◌, ◌<◌, ◌≤◌, eqb, List, [], ◌∷◌, length, take, drop, length-drop, sym, refl, ap, ◌∙◌, inl, inr, add-zero, arith}
+use Rattle.std.proofs.lemmas.List.{drop-drop, take_all}
 use Rattle.std.proofs.lemmas.Bool.{cond-true, cond-false, cond_both, cases_Bool, eq-eqb, ne_eqb}
 use Rattle.words.specs.Words.{Word, blank, begun, words_from, left}
 use Rattle.words.specs.Runs.{blanks, run}
+
+-- the rest of a text from an offset on, as a part of it
+pub rest_whole : (text : List ℕ) (at : ℕ) → take (length text - at) (drop at text) ≡ drop at text
+rest_whole text at = take_all (length text - at) (drop at text) (omega (arith, length-drop at text))
+
+-- how a first byte counts
+blank_first : (b : ℕ) (text : List ℕ) → blank b ≡ true → blanks (b ∷ text) ≡ suc (blanks text)
+blank_first b text e = grind arith
+
+other_first : (b : ℕ) (text : List ℕ) → blank b ≡ false → blanks (b ∷ text) ≡ 0
+other_first b text e = grind arith
+
+run_ends : (b : ℕ) (text : List ℕ) → blank b ≡ true → run (b ∷ text) ≡ 0
+run_ends b text e = grind arith
+
+run_first : (b : ℕ) (text : List ℕ) → blank b ≡ false → run (b ∷ text) ≡ suc (run text)
+run_first b text e = grind arith
 
 -- no word begins before the offset
 abbrev NotBefore : ℕ → List Word → Type 0
@@ -30,9 +47,9 @@ skipped at (b ∷ text) =
     elim (cases_Bool (blank b)) [
       | inl e ↦
           let n : at + 1 + blanks text ≡ at + suc (blanks text) = omega arith in
-          cond-true (blank b) _ _ e ∙ skipped (at + 1) text ∙ ap (λ k. words_from k (drop (blanks text) text)) n ∙ ap (λ k. words_from (at + k) (drop k (b ∷ text))) (sym (cond-true (blank b) (suc (blanks text)) 0 e))
+          cond-true (blank b) _ _ e ∙ skipped (at + 1) text ∙ ap (λ k. words_from k (drop (blanks text) text)) n ∙ ap (λ k. words_from (at + k) (drop k (b ∷ text))) (sym (blank_first b text e))
       | inr e ↦
-          ap (λ k. words_from k (b ∷ text)) (sym (add-zero at)) ∙ ap (λ k. words_from (at + k) (drop k (b ∷ text))) (sym (cond-false (blank b) (suc (blanks text)) 0 e))
+          ap (λ k. words_from k (b ∷ text)) (sym (add-zero at)) ∙ ap (λ k. words_from (at + k) (drop k (b ∷ text))) (sym (other_first b text e))
     ]
 
 -- a word and what follows it, where it has n bytes
@@ -51,11 +68,11 @@ grown at b (d ∷ text) =
     elim (cases_Bool (blank d)) [
       | inl e ↦
           let more : words_from (at + 1) (d ∷ text) ≡ words_from (at + 1 + 1) text = cond-true (blank d) _ _ e in
-          let none : run (d ∷ text) ≡ 0 = cond-true (blank d) _ _ e in
+          let none = run_ends d text e in
           ap (begun at b) more ∙ alone at b _ (later (at + 2) (at + 1 + 1) _ (omega arith) (from_there (at + 1 + 1) text)) ∙ ap (λ ws. record { at = at; bytes = b ∷ [] } ∷ ws) (sym more) ∙ ap (λ n. parted at (suc n) (b ∷ d ∷ text)) (sym none)
       | inr e ↦
           let more : words_from (at + 1) (d ∷ text) ≡ begun (at + 1) d (words_from (at + 1 + 1) text) = cond-false (blank d) _ _ e in
-          let r : run (d ∷ text) ≡ suc (run text) = cond-false (blank d) _ _ e in
+          let r = run_first d text e in
           let n : at + 1 + suc (run text) ≡ at + suc (suc (run text)) = omega arith in
           ap (begun at b) (more ∙ grown (at + 1) d text) ∙ cond-true (eqb (at + 1) (at + 1)) _ _ (eq-eqb _ _ refl) ∙ ap (λ k. record { at = at; bytes = b ∷ d ∷ take (run text) text } ∷ words_from k (drop (run text) text)) n ∙ ap (λ k. parted at (suc k) (b ∷ d ∷ text)) (sym r)
     ]
@@ -66,9 +83,9 @@ solid [] = refl
 solid (b ∷ text) =
     elim (cases_Bool (blank b)) [
       | inl e ↦
-          ap (λ k. blanks (drop k (b ∷ text))) (cond-true (blank b) (suc (blanks text)) 0 e) ∙ solid text
+          ap (λ k. blanks (drop k (b ∷ text))) (blank_first b text e) ∙ solid text
       | inr e ↦
-          ap (λ k. blanks (drop k (b ∷ text))) (cond-false (blank b) (suc (blanks text)) 0 e) ∙ cond-false (blank b) (suc (blanks text)) 0 e
+          ap (λ k. blanks (drop k (b ∷ text))) (other_first b text e) ∙ other_first b text e
     ]
 
 -- a text with no blank in front, and a run, begins with that run as its word
@@ -77,10 +94,9 @@ headed at [] z h = absurd (omega arith)
 headed at (b ∷ text) z h =
     elim (cases_Bool (blank b)) [
       | inl e ↦
-          let r : run (b ∷ text) ≡ 0 = cond-true (blank b) _ _ e in
-          absurd (omega arith)
+          absurd (omega (arith, run_ends b text e))
       | inr e ↦
-          cond-false (blank b) _ _ e ∙ grown at b text ∙ ap (λ k. parted at k (b ∷ text)) (sym (cond-false (blank b) 0 (suc (run text)) e))
+          cond-false (blank b) _ _ e ∙ grown at b text ∙ ap (λ k. parted at k (b ∷ text)) (sym (run_first b text e))
     ]
 
 -- a text with neither blanks nor a run in front is empty
@@ -89,16 +105,10 @@ bare [] z r = refl
 bare (b ∷ text) z r =
     elim (cases_Bool (blank b)) [
       | inl e ↦
-          let n : blanks (b ∷ text) ≡ suc (blanks text) = cond-true (blank b) _ _ e in
-          absurd (omega arith)
+          absurd (omega (arith, blank_first b text e))
       | inr e ↦
-          let n : run (b ∷ text) ≡ suc (run text) = cond-false (blank b) _ _ e in
-          absurd (omega arith)
+          absurd (omega (arith, run_first b text e))
     ]
-
-run_within : (text : List ℕ) → run text ≤ length text
-run_within [] = omega arith
-run_within (b ∷ text) = cond_both (blank b) 0 (suc (run text)) (λ n. n ≤ length (b ∷ text)) (λ _. omega arith) (λ _. omega (arith, run_within text))
 
 -- the first word from an offset on lies between the end of the blanks and the end of the run
 module _ (text : List ℕ) (at from to : ℕ) (f : from ≡ at + blanks (drop at text)) (t : to ≡ from + run (drop from text)) where
@@ -110,9 +120,6 @@ module _ (text : List ℕ) (at from to : ℕ) (f : from ≡ at + blanks (drop at
 
   same : left text at ≡ left text from
   same = skipped at (drop at text) ∙ ap (λ k. words_from k (drop (blanks (drop at text)) (drop at text))) (sym f) ∙ ap (words_from from) (sym dropped)
-
-  pub inside : from < to → to ≤ length text
-  inside h = omega (arith, run_within (drop from text), length-drop from text)
 
   pub found : from < to → left text at ≡ record { at = from; bytes = take (to - from) (drop from text) } ∷ left text to
   found h =

@@ -1,5 +1,3 @@
-pub mod Fronts
 pub mod Firsts
-pub mod Digits
 pub mod Rulings
 pub mod Steps

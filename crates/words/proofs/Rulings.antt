@@ -1,7 +1,6 @@
 -- Numbers that were read keep their rules.
 use Rattle.std.proofs.Common.{◌≡◌, ℕ, Bool, true, false, List, Some, None, Ok, Err, Option, sym, refl, ap, ◌∙◌, arith}
 use Rattle.variables.specs.declared.refusal.Refusal.{Refusal}
-use Rattle.words.specs.declared.fault.Fault.{Fault}
 use Rattle.words.specs.declared.fault.Flaw.{Flaw}
 use Rattle.words.specs.declared.number.Number.{Number}
 use Rattle.words.specs.Words.{Word}
@@ -26,16 +25,7 @@ pub kept_true : (kept : Bool) (why : Refusal) → kept_or kept why ≡ None → 
 kept_true true why h = refl
 kept_true false why h = grind arith
 
--- a number that breaks its rule
-pub rule_broken : (stop : ℕ) (rule : ℕ → Option Flaw) (words : List Word) (n : Number) (left : List Word) (flaw : Flaw)
-    → Ok (n, left) ≡ numeral stop words → rule n.value ≡ Some flaw → number_by stop rule words ≡ Err (record { flaw = flaw; at = n.at })
-rule_broken stop rule words n left flaw h k = ap (λ m. and_then m (λ n ws. ruled (rule n.value) n ws)) (sym h) ∙ ap (λ f. ruled f n left) k
-
 -- a number that keeps its rule
 pub rule_taken : (stop : ℕ) (rule : ℕ → Option Flaw) (words : List Word) (n : Number) (left : List Word)
     → Ok (n, left) ≡ numeral stop words → rule n.value ≡ None → number_by stop rule words ≡ Ok (n.value, left)
 rule_taken stop rule words n left h k = ap (λ m. and_then m (λ n ws. ruled (rule n.value) n ws)) (sym h) ∙ ap (λ f. ruled f n left) k
-
--- no number was read
-pub rule_faulty : (stop : ℕ) (rule : ℕ → Option Flaw) (words : List Word) (e : Fault) → Err e ≡ numeral stop words → number_by stop rule words ≡ Err e
-rule_faulty stop rule words e h = ap (λ m. and_then m (λ n ws. ruled (rule n.value) n ws)) (sym h)

@@ -1,7 +1,7 @@
 -- A reader stands for the words that it has yet to read.
 use Rattle.std.specs.Prelude.{ℕ, List, Ok, Err, Result}
 use Rattle.words.specs.declared.fault.Fault.{Fault}
-use Rattle.words.specs.declared.reader.Reader.{Reader}
+use Rattle.words.specs.declared.plain.Reader.{Reader}
 use Rattle.words.specs.declared.reader.Word.{Word as Lent}
 use Rattle.words.specs.Words.{Word, left}
 

@@ -26,7 +26,15 @@ pub struct Fault {
 }
 
 impl Flaw {
+    // The fault that it is at a place.
+    pub fn at(self, at: usize) -> Fault
+        ensures { result ≡ record { flaw = self; at = at } }
+    {
+        Fault { flaw: self, at }
+    }
+
     // The number by which callers know it.
+    // Not a cast of the variant: two of them carry a refusal.
     pub fn number(self) -> u8
         ensures { result ≡ flaw_number self }
     {
@@ -57,9 +65,6 @@ impl From<Refusal> for Fault {
     ghost from_gives = { λ why r. r ≡ record { flaw = Job why; at = 0 } };
 
     fn from(why: Refusal) -> Fault {
-        Fault {
-            flaw: Flaw::Job(why),
-            at: 0,
-        }
+        Flaw::Job(why).at(0)
     }
 }

@@ -3,5 +3,6 @@
 
 pub mod fault;
 pub mod number;
+mod plain;
 pub mod reader;
 mod run;

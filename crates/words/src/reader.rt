@@ -7,7 +7,8 @@ ghost use Rattle.words.specs.Readers.{text_of, left_of, seen};
 
 use crate::fault::{Fault, Flaw};
 use crate::number::{Number, parsed};
-use crate::run::{run_end, skip_blanks};
+pub use crate::plain::Reader;
+use crate::run::{blanks, run};
 use variables::refusal::Refusal;
 
 // A part of the text, and where it begins.
@@ -15,13 +16,6 @@ use variables::refusal::Refusal;
 pub struct Word<'a> {
     pub at: usize,
     pub bytes: &'a [u8],
-}
-
-// What is before `at` has been read.
-#[derive(Drop)]
-pub struct Reader<'a> {
-    text: &'a [u8],
-    at: usize,
 }
 
 impl<'a> Reader<'a> {
@@ -34,13 +28,14 @@ impl<'a> Reader<'a> {
     }
 
     // The next word.
+    // Not an invariant, that the text stays (kept): it speaks of before and after, and no one value can say it.
     pub fn word(&mut self) -> Result<Word<'a>, Fault>
         ensures kept { text_of self.new ≡ text_of self.old }
         ensures moved { left_of self.new ≡ rest_of (left_of self.old) }
         ensures read { answered (seen result) (left_of self.new) ≡ next (length (text_of self.old)) (left_of self.old) }
     {
-        let from = skip_blanks(self.text, self.at);
-        let to = run_end(self.text, from);
+        let from = self.at + blanks(&self.text[self.at..]);
+        let to = from + run(&self.text[from..]);
         self.at = to;
         if from < to {
             Ok(Word {
@@ -48,10 +43,7 @@ impl<'a> Reader<'a> {
                 bytes: &self.text[from..to],
             })
         } else {
-            Err(Fault {
-                flaw: Flaw::Ended,
-                at: self.text.len(),
-            })
+            Err(Flaw::Ended.at(self.text.len()))
         }
     }
 
@@ -62,13 +54,8 @@ impl<'a> Reader<'a> {
         ensures read { answered result (left_of self.new) ≡ numeral (length (text_of self.old)) (left_of self.old) }
     {
         let word = self.word()?;
-        match parsed(word.bytes) {
-            Some(value) => Ok(Number { value, at: word.at }),
-            None => Err(Fault {
-                flaw: Flaw::NoNumber,
-                at: word.at,
-            }),
-        }
+        let value = parsed(word.bytes).ok_or(Flaw::NoNumber.at(word.at))?;
+        Ok(Number { value, at: word.at })
     }
 
     // A number of any size.
@@ -81,6 +68,7 @@ impl<'a> Reader<'a> {
     }
 
     // A number up to a largest one.
+    // Not a method with the rule as a closure: most rules write (a size, a scope's variable), which a proof then loses.
     pub fn up_to(&mut self, most: u32, why: Refusal) -> Result<u32, Fault>
         ensures kept { text_of self.new ≡ text_of self.old }
         ensures read { answered result (left_of self.new) ≡ number_by (length (text_of self.old)) (λ n. kept_or (nat_le n most) why) (left_of self.old) }
@@ -98,10 +86,7 @@ impl<'a> Reader<'a> {
         ensures { result ≡ nothing_left tt (left_of self.old) }
     {
         match self.word() {
-            Ok(word) => Err(Fault {
-                flaw: Flaw::LeftOver,
-                at: word.at,
-            }),
+            Ok(word) => Err(Flaw::LeftOver.at(word.at)),
             Err(_) => Ok(()),
         }
     }

@@ -1,5 +1,5 @@
 // Runs of blanks and of other bytes.
-ghost use Rattle.std.specs.Prelude.{◌≡◌, ◌+◌, drop};
+ghost use Rattle.std.specs.Prelude.{◌≡◌, ◌≤◌, length};
 ghost use Rattle.words.specs.Words.{blank};
 ghost use Rattle.words.specs.Runs.{blanks, run};
 
@@ -10,24 +10,19 @@ fn is_blank(byte: u8) -> bool
     matches!(byte, 9 | 10 | 13 | 32)
 }
 
-// The first place from `from` on that holds no blank, or the text's end.
-pub(crate) fn skip_blanks(text: &[u8], from: usize) -> usize
-    ensures { result ≡ from + blanks (drop from text.now) }
+// How many blanks a text begins with.
+// Not one function of a test: both are the library's count of what passes one, and a test passed in would need a law in the clause.
+pub(crate) fn blanks(text: &[u8]) -> usize
+    ensures count { result ≡ blanks text.now }
+    ensures within { result ≤ length text.now }
 {
-    let mut at = from;
-    while at < text.len() && is_blank(text[at]) {
-        at += 1;
-    }
-    at
+    text.iter().take_while(|byte| is_blank(**byte)).count()
 }
 
-// The first place from `from` on that holds a blank, or the text's end.
-pub(crate) fn run_end(text: &[u8], from: usize) -> usize
-    ensures { result ≡ from + run (drop from text.now) }
+// How many bytes other than blanks it begins with.
+pub(crate) fn run(text: &[u8]) -> usize
+    ensures count { result ≡ run text.now }
+    ensures within { result ≤ length text.now }
 {
-    let mut end = from;
-    while end < text.len() && !is_blank(text[end]) {
-        end += 1;
-    }
-    end
+    text.iter().take_while(|byte| !is_blank(**byte)).count()
 }

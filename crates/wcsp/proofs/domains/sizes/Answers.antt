@@ -14,15 +14,15 @@ use Rattle.wcsp.proofs.domains.sizes.Goals as goal
 abbrev one : List ℕ → ℕ → List ℕ → List Word → Reading ℕ
 one text max done ws = number_by (length text) (size_rule max) ws
 
-pub returns-in_err-size : goal.returns-in_err-size
-returns-in_err-size c =
+pub returns-in_err-size-clause-read : goal.returns-in_err-size-clause-read
+returns-in_err-size-clause-read c =
     let p = err_from_is_err_and c.from_residual.result c.from_residual.ensures.1 in
     let l = c.loop-v in
     let text = text_of c.args.reader.now in
     let max = c.args.largest in
     let read = ap (λ t. one t max [] (left_of l.reader)) (sym l.invariant.0) ∙ c.in_err-size.ensures.read in
     let broken = one_fault (sizes_from (length text) max) (one text max) (λ _ _ _. refl) c.args.count l._v (sizes_of l.sizes) (left_of l.reader) c.in_err-size.field-0.0 (omega arith) read in
-    record { kept = c.in_err-size.ensures.kept ∙ l.invariant.0; read = rw (p.1, p.2) (sym l.invariant.2 ∙ broken) }
+    rw (p.1, p.2) (sym l.invariant.2 ∙ broken)
 
 pub loop-v-preserved : goal.loop-v-preserved
 loop-v-preserved c =

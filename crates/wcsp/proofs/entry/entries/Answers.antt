@@ -8,7 +8,7 @@ use Rattle.wcsp.specs.Layouts.{entries_from}
 use Rattle.wcsp.specs.Passes.{by_pass}
 use Rattle.wcsp.specs.Tables.{table_of, laid}
 use Rattle.wcsp.specs.Described.{tables}
-use Rattle.wcsp.proofs.Amends.{pass_none, pass_more, pass_checked}
+use Rattle.wcsp.proofs.Amends.{pass_none, pass_more}
 use Rattle.wcsp.proofs.Turns.{entered_length, entries_fault, entries_more, outline_more, laid_behind, laid_none}
 use Rattle.wcsp.proofs.entry.entries.Goals as goal
 
@@ -26,25 +26,21 @@ loop-k-init c =
       ),
     )
 
-pub entry-requires : goal.entry-requires
-entry-requires c =
+pub entry-requires-clause-few : goal.entry-requires-clause-few
+entry-requires-clause-few c =
     let l = c.loop-k in
     let o = outline c.args.shape.now in
     let entered = ap (λ (z : Outline). length z.functions) l.invariant.1.2 in
-    record { few = omega (arith, entered_length o l.invariant.1.0); small = omega arith }
+    omega (arith, entered_length o l.invariant.1.0)
 
-pub returns-in_err-entry : goal.returns-in_err-entry
-returns-in_err-entry c =
+pub returns-in_err-entry-clause-read : goal.returns-in_err-entry-clause-read
+returns-in_err-entry-clause-read c =
     let p = err_from_is_err_and c.from_residual.result c.from_residual.ensures.1 in
     let l = c.loop-k in
     let area = c.args.area.now in
     let broken = entries_fault (text_of l.reader) (text_of c.args.reader.now) l.area area (outline l.shape) (outline c.args.shape.now) l.invariant.1.0 c.args.count l._k (left_of l.reader)
     l.invariant.0 l.auto.area l.invariant.1.2 (omega arith) c.in_err-entry.field-0.0 c.in_err-entry.ensures.read in
-    record {
-      kept = c.in_err-entry.ensures.kept ∙ l.invariant.0;
-      checked = λ e. c.in_err-entry.ensures.checked e ∙ pass_checked c.args.pass area l.area _ l.invariant.1.4 e;
-      read = rw (p.1, p.2) (sym l.invariant.1.1 ∙ broken);
-    }
+    rw (p.1, p.2) (sym l.invariant.1.1 ∙ broken)
 
 pub loop-k-preserved : goal.loop-k-preserved
 loop-k-preserved c =

@@ -7,18 +7,11 @@ use Rattle.problems.specs.Rules.{enter_rows}
 use Rattle.words.specs.Readers.{text_of, left_of}
 use Rattle.wcsp.specs.Rules.{room_rule}
 use Rattle.wcsp.proofs.Entries.{room_taken}
-use Rattle.words.proofs.Rulings.{rule_taken, rule_faulty}
-use Rattle.std.proofs.lemmas.Result.{err_from_is_err_and}
+use Rattle.words.proofs.Rulings.{rule_taken}
 use Rattle.wcsp.proofs.entry.usual.Goals as goal
 
-pub returns-in_err-number : goal.returns-in_err-number
-returns-in_err-number c =
-    let p = err_from_is_err_and c.from_residual.result c.from_residual.ensures.1 in
-    let s = c.args.reader.now in
-    record { kept = c.number.ensures.kept; read = rw (p.1, p.2) (rule_faulty (length (text_of s)) (room_rule c.args.room (outline c.args.shape.now).used (cells (outline c.args.shape.now).sizes (scope_of c.args.scope.now))) (left_of s) c.in_err-number.field-0.0 c.in_err-number.ensures.read) }
-
-pub returns-in-Ok : goal.returns-in-Ok
-returns-in-Ok c =
+pub returns-in-Ok-clause-read : goal.returns-in-Ok-clause-read
+returns-in-Ok-clause-read c =
     let s = c.args.reader.now in
     let o = outline c.args.shape.now in
     let scope = scope_of c.args.scope.now in
@@ -26,12 +19,8 @@ returns-in-Ok c =
     let n = c.in_ok-number.number in
     let got = c.in-Ok.ensures in
     let rows = ap (λ vs. first_of (enter_rows o.sizes (length o.functions) o.used (min room 16384) vs)) (sym c.variables.ensures) ∙ got.0 in
-    let taken = room_taken o.sizes scope (length o.functions) o.used room n.value c.requires.small rows in
-    record {
-      kept = c.number.ensures.kept;
-      read = (
-        n.value,
-        rule_taken (length (text_of s)) (room_rule room o.used (cells o.sizes scope)) (left_of s) n (left_of c.number.new.self) c.in_ok-number.ensures.read taken,
-        (refl, got.1.1 ∙ ap (entered o) c.variables.ensures),
-      );
-    }
+    let taken = room_taken o.sizes scope (length o.functions) o.used room n.value c.requires.small rows in (
+      n.value,
+      rule_taken (length (text_of s)) (room_rule room o.used (cells o.sizes scope)) (left_of s) n (left_of c.number.new.self) c.in_ok-number.ensures.read taken,
+      (refl, got.1.1 ∙ ap (entered o) c.variables.ensures),
+    )

@@ -8,14 +8,14 @@ use Rattle.wcsp.specs.Layouts.{Listed, listing, listed_from}
 use Rattle.wcsp.specs.Passes.{by_pass}
 use Rattle.wcsp.specs.Tables.{amend, amended}
 use Rattle.words.proofs.Steps.{one_more, one_fault}
-use Rattle.wcsp.proofs.Amends.{amended_push, pass_more, pass_checked}
+use Rattle.wcsp.proofs.Amends.{amended_push, pass_more}
 use Rattle.wcsp.proofs.listing.listed.Goals as goal
 
 abbrev one : List ℕ → List ℕ → List ℕ → List Listed → List Word → Reading Listed
 one text sizes scope done ws = listing (length text) sizes scope ws
 
-pub returns-in_err-listing : goal.returns-in_err-listing
-returns-in_err-listing c =
+pub returns-in_err-listing-clause-read : goal.returns-in_err-listing-clause-read
+returns-in_err-listing-clause-read c =
     let p = err_from_is_err_and c.from_residual.result c.from_residual.ensures.1 in
     let l = c.loop-k in
     let text = text_of c.args.reader.now in
@@ -24,11 +24,7 @@ returns-in_err-listing c =
     let words = left_of l.reader in
     let read = ap (λ t. one t sizes scope [] words) (sym l.invariant.0) ∙ c.in_err-listing.ensures.read in
     let broken = one_fault (listed_from (length text) sizes scope) (one text sizes scope) (λ _ _ _. refl) c.args.count l._k l.invariant.1.0 words c.in_err-listing.field-0.0 (omega arith) read in
-    record {
-      kept = c.in_err-listing.ensures.kept ∙ l.invariant.0;
-      checked = λ e. c.in_err-listing.ensures.checked e ∙ pass_checked c.args.pass c.args.table.now l.table _ l.invariant.1.2 e;
-      read = rw (p.1, p.2) (sym l.invariant.1.1 ∙ broken);
-    }
+    rw (p.1, p.2) (sym l.invariant.1.1 ∙ broken)
 
 pub loop-k-preserved : goal.loop-k-preserved
 loop-k-preserved c =

@@ -7,8 +7,8 @@ use Rattle.wcsp.specs.Described.{entered_all, tables}
 use Rattle.wcsp.proofs.Documents.{read_document}
 use Rattle.wcsp.proofs.load.read.Goals as goal
 
-pub returns : goal.returns
-returns c =
+pub returns-clause-read : goal.returns-clause-read
+returns-clause-read c =
     let s = c.new-reader.result in
     let s₁ = c.read_heading.new.reader in
     let s₂ = c.sizes.new.reader in
@@ -20,17 +20,13 @@ returns c =
     let e = c.in_ok-entries.ensures.read in
     let sizes = sizes_of c.in_ok-sizes.sizes in
     let o = outline c.sized-shape.result in
-    let opens = c.sized-shape.ensures in
-    record {
-      checked = c.entries.ensures.checked;
-      read = (
-        _,
-        read_document c.args.text.now (length area) s s₁ s₂ s₃ c.in_ok-heading.heading sizes o (outline c.entries.new.shape) c.new-reader.ensures.whole c.new-reader.ensures.start c.read_heading.ensures.kept c.sizes.ensures.kept
-            h.0 h.1 h.2 z opens e.0 e.1 c.in_ok-end.ensures,
-        (
-          h.2.upper,
-          e.2.0 ∙ ap (λ o. entered_all o e.0) opens,
-          e.2.1 ∙ ap (λ (o : Outline). by_pass pass area (laid area o.used (tables o.sizes e.0))) opens,
-        ),
-      );
-    }
+    let opens = c.sized-shape.ensures in (
+      _,
+      read_document c.args.text.now (length area) s s₁ s₂ s₃ c.in_ok-heading.heading sizes o (outline c.entries.new.shape) c.new-reader.ensures.whole c.new-reader.ensures.start c.read_heading.ensures.kept c.sizes.ensures.kept
+          h.0 h.1 h.2 z opens e.0 e.1 c.in_ok-end.ensures,
+      (
+        h.2.upper,
+        e.2.0 ∙ ap (λ o. entered_all o e.0) opens,
+        e.2.1 ∙ ap (λ (o : Outline). by_pass pass area (laid area o.used (tables o.sizes e.0))) opens,
+      ),
+    )

@@ -17,8 +17,8 @@ use Rattle.wcsp.proofs.scopes.scope.Goals as goal
 abbrev one : List ℕ → ℕ → List ℕ → List Word → Reading ℕ
 one text n done ws = number_by (length text) (variable_rule n done) ws
 
-pub returns-in_err-variable : goal.returns-in_err-variable
-returns-in_err-variable c =
+pub returns-in_err-variable-clause-read : goal.returns-in_err-variable-clause-read
+returns-in_err-variable-clause-read c =
     let p = err_from_is_err_and c.from_residual.result c.from_residual.ensures.1 in
     let l = c.loop-k in
     let text = text_of c.args.reader.now in
@@ -26,7 +26,7 @@ returns-in_err-variable c =
     let scope = scope_of l.scope in
     let read = ap (λ t. one t n scope (left_of l.reader)) (sym l.invariant.0) ∙ c.in_err-variable.ensures.read in
     let broken = one_fault (scope_from (length text) n) (one text n) (λ _ _ _. refl) c.args.arity l._k scope (left_of l.reader) c.in_err-variable.field-0.0 (omega arith) read in
-    record { kept = c.in_err-variable.ensures.kept ∙ l.invariant.0; read = rw (p.1, p.2) (sym l.invariant.2 ∙ broken) }
+    rw (p.1, p.2) (sym l.invariant.2 ∙ broken)
 
 pub loop-k-preserved : goal.loop-k-preserved
 loop-k-preserved c =

@@ -1,6 +1,4 @@
-use Rattle.std.proofs.Common.{ℕ, ◌<◌, ◌≤◌, List, [], ◌∷◌, ◌++◌, length, get_or, set, sym, ap, ◌∙◌, arith}
-use Rattle.std.proofs.lemmas.List.{take_all}
-use Rattle.std.proofs.lemmas.Result.{err_from_is_err_and}
+use Rattle.std.proofs.Common.{ℕ, ◌<◌, List, [], ◌∷◌, ◌++◌, length, get_or, set, sym, ap, ◌∙◌, arith}
 use Rattle.variables.specs.Records.{sizes_of, scope_of, values_of}
 use Rattle.variables.proofs.Cells.{variable_slot}
 use Rattle.words.specs.Words.{Word}
@@ -8,25 +6,11 @@ use Rattle.words.specs.Readings.{Reading}
 use Rattle.words.specs.Readers.{text_of, left_of}
 use Rattle.wcsp.specs.Rules.{value_rule}
 use Rattle.words.specs.Ruled.{number_by}
-use Rattle.wcsp.proofs.Values.{value_more, value_fault, value_below, value_end, fits_more, given_more}
+use Rattle.wcsp.proofs.Values.{value_more, value_below, fits_more, given_more}
 use Rattle.wcsp.proofs.tuples.tuple.Goals as goal
 
 abbrev one : List ℕ → ℕ → List Word → Reading ℕ
 one text size ws = number_by (length text) (value_rule size) ws
-
-pub returns-in_err-value : goal.returns-in_err-value
-returns-in_err-value c =
-    let p = err_from_is_err_and c.from_residual.result c.from_residual.ensures.1 in
-    let l = c.loop-v in
-    let text = text_of c.args.reader.now in
-    let sizes = sizes_of c.args.sizes.now in
-    let vs = scope_of c.args.scope.now in
-    let long = ap length c.variables-variables.ensures in
-    let size = c.size.ensures ∙ ap (λ us. get_or sizes (get_or us l.v-index 0) 0) c.variables-variables.ensures in
-    let words = left_of l.reader in
-    let read = ap (λ t. one t (get_or sizes (get_or vs l.v-index 0) 0) words) (sym l.invariant.0) ∙ ap (λ z. one (text_of l.reader) z words) (sym size) ∙ sym c.in_err-value.ensures.read in
-    let broken = value_fault (length text) sizes vs l.v-index l.invariant.1.0 words (omega arith) c.in_err-value.field-0.0 read in
-    record { kept = c.in_err-value.ensures.kept ∙ l.invariant.0; read = rw (p.1, p.2) (sym l.invariant.1.1 ∙ broken) }
 
 pub loop-v-preserved : goal.loop-v-preserved
 loop-v-preserved c =
@@ -55,21 +39,3 @@ loop-v-preserved c =
         λ v. ap (λ s. get_or s v 0) (c.give.ensures ∙ ap (λ u. set (values_of l.setting) u x) var) ∙ given_more sizes vs done (values_of l.setting) i x here l.invariant.1.2 good c.args.scope.now.apart room l.invariant.1.3 v,
       ),
     )
-
-pub returns : goal.returns
-returns c =
-    let l = c.loop-v in
-    let text = text_of c.args.reader.now in
-    let sizes = sizes_of c.args.sizes.now in
-    let vs = scope_of c.args.scope.now in
-    let done = l.invariant.1.0 in
-    let long = ap length c.variables-variables.ensures in
-    let end : length vs ≤ l.v-index = omega arith in
-    record {
-      kept = l.invariant.0;
-      read = (
-        done,
-        sym l.invariant.1.1 ∙ value_end (length text) sizes vs l.v-index done (left_of l.reader) end,
-        (rw (take_all l.v-index vs end) at l.invariant.1.2, λ v. rw (take_all l.v-index vs end) at (l.invariant.1.3 v)),
-      );
-    }
