@@ -1,18 +1,13 @@
-use Rattle.std.proofs.Common.{map, vec_items, sym, ◌∙◌, arith}
-use Rattle.std.proofs.lemmas.List.{at_drop_all}
-use Rattle.orders.specs.Cliques.{joined}
-use Rattle.orders.proofs.Steps.{joined_found, joined_later}
+use Rattle.std.proofs.Common.{ℕ, ◌&&◌, vec_items, Vec, rules, ◌∙◌}
+use Rattle.std.proofs.lemmas.Iterator.{YieldsList-from_slice}
+use Rattle.std.proofs.lemmas.Iterator.Search.{any_from_yields_List}
+use Rattle.std.specs.declared.alloc.Global.{Global}
+use Rattle.variables.specs.Lists.{has}
+use Rattle.orders.proofs.Steps.{joined_mapped}
 use Rattle.orders.proofs.cliques.joined.Goals as goal
 
-pub returns-then-has_both : goal.returns-then-has_both
-returns-then-has_both c =
-    joined_found c.args.cliques.now c.loop-clique.clique-index c.clique-item.result c.args.a c.args.b (omega arith) c.clique-item.is _ c.as_slice.result.now
-    c.as_slice.ensures.value c.if-has_both.ensures c.loop-clique.invariant
-
-pub loop-clique-preserved : goal.loop-clique-preserved
-loop-clique-preserved c =
-    joined_later c.args.cliques.now c.loop-clique.clique-index c.clique-item.result c.args.a c.args.b (omega arith) c.clique-item.is _ c.as_slice.result.now
-    c.as_slice.ensures.value c.if-has_both.ensures c.loop-clique.invariant
-
 pub returns : goal.returns
-returns c = sym (at_drop_all (λ xs. joined (map vec_items xs) c.args.a c.args.b) c.args.cliques.now c.loop-clique.clique-index (omega arith)) ∙ c.loop-clique.invariant
+returns c =
+    any_from_yields_List (λ (v : Vec ℕ Global). has (vec_items v) c.args.a && has (vec_items v) c.args.b) _ _ _ c.any.ensures.ran
+    (YieldsList-from_slice c.args.cliques.now cc) (λ x b q k. search rules)
+    ∙ joined_mapped c.args.cliques.now c.args.a c.args.b
