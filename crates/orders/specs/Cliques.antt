@@ -46,6 +46,7 @@ others us v = filter (λ u. not (u == v)) us
 abbrev pub scopes : List Placed → List (List ℕ)
 scopes fs = map (λ (f : Placed). f.scope) fs
 
+-- a function's variables, none where there is no such function
 abbrev pub scope_or_none : Option Placed → List ℕ
 scope_or_none None = []
 scope_or_none (Some f) = f.scope
