@@ -2,18 +2,10 @@
 ghost use Rattle.std.specs.Prelude.{◌≡◌, map, IfOk, vec_items};
 ghost use Rattle.problems.specs.Outlines.{outline};
 ghost use Rattle.problems.specs.Records.{nth};
-ghost use Rattle.orders.specs.Cliques.{joined, scopes, scope_or_none};
+ghost use Rattle.orders.specs.Cliques.{scopes, scope_or_none};
 
 use problems::shape::Shape;
 use std::alloc::{AllocError, Global};
-use variables::listing::lists;
-
-// Whether one of the cliques has both variables.
-pub(crate) fn joined(cliques: &[Vec<u8>], a: u8, b: u8) -> bool
-    ensures { result ≡ joined (map vec_items cliques.now) a b }
-{
-    cliques.iter().any(|clique| lists(clique.as_slice(), a) && lists(clique.as_slice(), b))
-}
 
 // The variables of function k, none where there is no such function.
 fn scope(heap: Global, shape: &Shape, k: usize) -> Result<Vec<u8>, AllocError>

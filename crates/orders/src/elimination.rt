@@ -1,13 +1,14 @@
 // Variables that are eliminated one after the other.
 ghost use Rattle.std.specs.Prelude.{◌≡◌, ◌≤◌, ◌*◌, ◌∷◌, [], ◌++◌, map, length, IfOk, vec_items};
 ghost use Rattle.problems.specs.Outlines.{outline};
-ghost use Rattle.orders.specs.Cliques.{nearby, neighbours, apart, gaps, fill, fewest, others, scopes};
+ghost use Rattle.orders.specs.Cliques.{joined, nearby, neighbours, apart, gaps, fill, fewest, others, scopes};
 ghost use Rattle.orders.specs.Orders.{numbered};
 
-use crate::cliques::{joined, scopes};
+use crate::cliques::scopes;
 use crate::natural::natural;
 use problems::shape::Shape;
 use std::alloc::{AllocError, Global};
+use variables::listing::lists;
 
 // The variables that are left, and the cliques that join them.
 #[derive(Drop)]
@@ -33,11 +34,18 @@ impl Elimination {
         })
     }
 
+    // Whether one of the cliques has both variables.
+    fn joined(&self, a: u8, b: u8) -> bool
+        ensures { result ≡ joined (map vec_items self.now.cliques.items) a b }
+    {
+        self.cliques.iter().any(|clique| lists(clique.as_slice(), a) && lists(clique.as_slice(), b))
+    }
+
     // Whether u is another variable that v is joined with.
     fn nearby(&self, v: u8, u: u8) -> bool
         ensures { result ≡ nearby (map vec_items self.now.cliques.items) v u }
     {
-        u != v && joined(self.cliques.as_slice(), v, u)
+        u != v && self.joined(v, u)
     }
 
     // The variables that are joined with v, of those that are left.
@@ -57,10 +65,7 @@ impl Elimination {
         ensures count { result ≡ apart (map vec_items self.now.cliques.items) a variables.now }
         ensures few { result ≤ length variables.now }
     {
-        variables
-            .iter()
-            .filter(|b| !joined(self.cliques.as_slice(), a, **b))
-            .count()
+        variables.iter().filter(|b| !self.joined(a, **b)).count()
     }
 
     // How many pairs of the variables are not joined.
