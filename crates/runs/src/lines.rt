@@ -9,6 +9,7 @@ use scripts::written::Written;
 use std::alloc::{AllocError, Global};
 
 // The word that a call begins its line with.
+// Not an impl of Display, here and below: calls, stages and verdicts stand in other crates.
 fn name<C>(call: &Call<C>) -> &'static str {
     match call {
         Call::Open { .. } => "open",
@@ -60,7 +61,6 @@ fn stepped(heap: Global, visits: u32, state: &str) -> Result<String, AllocError>
     format!(in heap; "step: {visits} visits, {state}\n")
 }
 
-// Not an impl of Display: the stage stands in another crate, and so does the verdict below.
 fn step_state(stepped: Stepped) -> &'static str {
     match stepped.stage {
         Stage::Ended => "ended",

@@ -112,6 +112,7 @@ fn report<C: Written>(words: &mut Reader, areas: usize) -> Result<Request<C>, Fl
 }
 
 // A call: its name, and what it brings.
+// Not a table of functions: some calls need no heap, and two bring nothing.
 pub(crate) fn call<C: Written>(
     heap: Global,
     line: &mut Line,
