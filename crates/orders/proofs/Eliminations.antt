@@ -1,38 +1,31 @@
 -- What is eliminated one after the other, and its reverse, is an order.
-use Rattle.std.proofs.Common.{◌≡◌, ℕ, zero, suc, ◌+◌, ◌-◌, ◌<◌, ◌≤◌, Bool, true, false, cond, not, ◌||◌, eqb, ltb, List, [], ◌∷◌, ◌++◌, reverse, length, sym, refl, ap, ◌∙◌, ap₂, inl, inr, arith, eqb-true}
-use borrow.Author.Tests.{not-true}
-use Rattle.std.proofs.lemmas.List.{length-append, length-reverse, reverse-append, nil_from_length}
-use Rattle.std.proofs.lemmas.Bool.{cases_Bool, cond_both, and_parts}
+use Rattle.std.proofs.Common.{◌≡◌, ℕ, zero, suc, ◌+◌, ◌-◌, ◌<◌, true, false, cond, ltb, List, [], ◌∷◌, ◌++◌, reverse, length, sym, refl, ap, ◌∙◌, append_assoc, arith}
+use Rattle.std.proofs.lemmas.List.{length-reverse, reverse-append, nil_from_length}
+use Rattle.std.proofs.lemmas.Bool.{cond_both}
 use Rattle.std.proofs.lemmas.Bool.Decides.{nat_tests}
+use Rattle.std.specs.List.{range_with_len}
+use Rattle.std.proofs.lemmas.List.FromFn.{length-range_with_len}
 use Rattle.variables.specs.Lists.{has, known, distinct}
 use Rattle.problems.specs.Outlines.{Outline}
 use Rattle.variables.specs.Rules.{is_order}
 use Rattle.variables.proofs.Listings.{has_append, distinct_push}
 use Rattle.orders.specs.Cliques.{neighbours, fill, fewest, fewest_from, others, scopes}
-use Rattle.orders.proofs.Steps.{moved, ended}
 use Rattle.orders.specs.Orders.{numbered, eliminated, min_fill}
 
-pub numbered_length : (n : ℕ) → length (numbered n) ≡ n
-numbered_length zero = refl
-numbered_length (suc n) = let ih = numbered_length n in let e = length-append (numbered n) (n ∷ []) in omega arith
+numbered_before : (a n u : ℕ) → u < a → has (range_with_len a n) u ≡ false
+numbered_before a zero u h = refl
+numbered_before a (suc n) u h = let ih = numbered_before (a + 1) n u (omega arith) in grind (arith, nat_tests)
 
-numbered_past : (n u : ℕ) → n ≤ u → has (numbered n) u ≡ false
-numbered_past zero u h = refl
-numbered_past (suc n) u h =
-    let ih = numbered_past n u (omega arith) in
-    let e = has_append (numbered n) (n ∷ []) u in
+numbered_distinct : (a n : ℕ) → distinct (range_with_len a n) ≡ true
+numbered_distinct a zero = refl
+numbered_distinct a (suc n) =
+    let ih = numbered_distinct (a + 1) n in
+    let before = numbered_before (a + 1) n a (omega arith) in
     grind (arith, nat_tests)
 
-numbered_distinct : (n : ℕ) → distinct (numbered n) ≡ true
-numbered_distinct zero = refl
-numbered_distinct (suc n) =
-    let ih = numbered_distinct n in
-    let past = numbered_past n n (omega arith) in
-    let e = distinct_push (numbered n) n in
-    grind (arith, nat_tests)
-
-numbered_below : (n u : ℕ) → has (numbered n) u ≡ true → u < n
-numbered_below n u h = let past = numbered_past n u in grind (arith, nat_tests)
+numbered_below : (a n u : ℕ) → has (range_with_len a n) u ≡ true → u < a + n
+numbered_below a zero u h = absurd (let z : true ≡ false = sym h in grind arith)
+numbered_below a (suc n) u h = let ih = numbered_below (a + 1) n u in grind (arith, nat_tests)
 
 known_from : (n : ℕ) (us : List ℕ) → ((u : ℕ) → has us u ≡ true → u < n) → known n us ≡ true
 known_from n [] h = refl
@@ -45,7 +38,7 @@ order_from : (n : ℕ) (us : List ℕ) → length us ≡ n → distinct us ≡ t
 order_from n us long apart within = let k = known_from n us within in grind (arith, nat_tests)
 
 pub numbered_order : (n : ℕ) → is_order n (numbered n) ≡ true
-numbered_order n = order_from n (numbered n) (numbered_length n) (numbered_distinct n) (numbered_below n)
+numbered_order n = order_from n (numbered n) (length-range_with_len 0 n) (numbered_distinct 0 n) (λ u h. let below = numbered_below 0 n u h in omega arith)
 
 fewest_in : (cs : List (List ℕ)) (left rest : List ℕ) (best : ℕ) → has left best ≡ true → ((u : ℕ) → has rest u ≡ true → has left u ≡ true)
     → has left (fewest_from cs left best rest) ≡ true
@@ -79,20 +72,7 @@ others_same (w ∷ us) v h = let ih = others_same us v in grind (arith, nat_test
 others_length : (us : List ℕ) (v n : ℕ) → distinct us ≡ true → has us v ≡ true → length us ≡ suc n → length (others us v) ≡ n
 others_length [] v n d h e = absurd (omega arith)
 others_length (w ∷ us) v zero d h e = let same = others_same us v in let long = nil_from_length us (omega arith) in grind (arith, nat_tests)
-others_length (w ∷ us) v (suc n) d h e =
-    let ih = others_length us v n in
-    let same = others_same us v in
-    elim (cases_Bool (eqb w v)) [
-      | inl t ↦
-          let e' = eqb-true w v t in
-          let parts = and_parts (not (has us w)) (distinct us) d in
-          let gone : has us v ≡ false = rw e' at (not-true (has us w) parts.0) in
-          ap (λ (b : Bool). length (cond b (others us v) (w ∷ others us v))) t ∙ ap length (same gone) ∙ omega arith
-      | inr t ↦
-          let parts = and_parts (not (has us w)) (distinct us) d in
-          let there : has us v ≡ true = sym (ap (λ b. b || has us v) t) ∙ h in
-          ap (λ (b : Bool). length (cond b (others us v) (w ∷ others us v))) t ∙ ap suc (ih parts.1 there (omega arith))
-    ]
+others_length (w ∷ us) v (suc n) d h e = let ih = others_length us v n in let same = others_same us v in grind (arith, nat_tests)
 
 eliminated_length : (n : ℕ) (cs : List (List ℕ)) (left : List ℕ) → length (eliminated n cs left) ≡ n
 eliminated_length zero cs left = refl
@@ -120,26 +100,14 @@ eliminated_distinct (suc n) cs left long apart =
     let back = eliminated_has n cs' (others left v) short apart' v in
     grind (arith, nat_tests)
 
--- nothing is eliminated yet
-pub eliminated_none : (n : ℕ) (cs cs' : List (List ℕ)) (left left' gone : List ℕ) → gone ≡ [] → cs' ≡ cs → left' ≡ left → gone ++ eliminated (n - 0) cs' left' ≡ eliminated n cs left
-eliminated_none n cs cs' left left' gone none same rest =
-    let e : n - 0 ≡ n = omega arith in
-    ap (λ (g : List ℕ). g ++ eliminated (n - 0) cs' left') none ∙ ap (λ (j : ℕ). eliminated j cs' left') e ∙ ap₂ (λ (c : List (List ℕ)) (l : List ℕ). eliminated n c l) same rest
-
 -- one variable more
 pub eliminated_turn : (n k v : ℕ) (cs cs' : List (List ℕ)) (left left' gone gone' whole : List ℕ) → k < n → v ≡ fewest cs left → cs' ≡ cs ++ neighbours cs left v ∷ [] → left' ≡ others left v
     → gone' ≡ gone ++ v ∷ [] → gone ++ eliminated (n - k) cs left ≡ whole → gone' ++ eliminated (n - (k + 1)) cs' left' ≡ whole
 eliminated_turn n k v cs cs' left left' gone gone' whole h next more rest put before =
-    let m : ℕ = n - (k + 1) in
-    let e : n - k ≡ suc m = omega arith in
-    let front : eliminated (n - k) cs left ≡ v ∷ eliminated m cs' left' =
-    ap (λ (j : ℕ). eliminated j cs left) e
-    ∙ ap (λ (w : ℕ). w ∷ eliminated m (cs ++ neighbours cs left w ∷ []) (others left w)) (sym next)
-    ∙ ap₂ (λ (c : List (List ℕ)) (l : List ℕ). v ∷ eliminated m c l) (sym more) (sym rest) in
-    moved gone gone' _ _ whole v put front before
-
-pub eliminated_all : (n k : ℕ) (gone : List ℕ) (cs : List (List ℕ)) (left whole : List ℕ) → n ≤ k → gone ++ eliminated (n - k) cs left ≡ whole → gone ≡ whole
-eliminated_all n k gone cs left whole h before = let e : n - k ≡ 0 = omega arith in ended gone _ whole (ap (λ (j : ℕ). eliminated j cs left) e) before
+    let e : n - k ≡ suc (n - (k + 1)) = omega arith in
+    let front : eliminated (suc (n - (k + 1))) cs left ≡ v ∷ eliminated (n - (k + 1)) cs' left' = rw (more, rest, next) refl in
+    let more' = append_assoc gone (v ∷ []) (eliminated (n - (k + 1)) cs' left') in
+    cc
 
 reverse-cons : (u : ℕ) (us : List ℕ) → reverse (u ∷ us) ≡ reverse us ++ u ∷ []
 reverse-cons u us = reverse-append (u ∷ []) us
@@ -163,5 +131,5 @@ pub min_fill_order : (o : Outline) → is_order (length o.sizes) (min_fill o) �
 min_fill_order o =
     let n : ℕ = length o.sizes in
     let us : List ℕ = eliminated n (scopes o.functions) (numbered n) in
-    order_from n (reverse us) (length-reverse us ∙ eliminated_length n _ _) (distinct_reverse us (eliminated_distinct n _ _ (numbered_length n) (numbered_distinct n)))
-    (λ u h. numbered_below n u (eliminated_has n _ _ (numbered_length n) (numbered_distinct n) u (sym (has_reverse us u) ∙ h)))
+    order_from n (reverse us) (length-reverse us ∙ eliminated_length n _ _) (distinct_reverse us (eliminated_distinct n _ _ (length-range_with_len 0 n) (numbered_distinct 0 n)))
+    (λ u h. let below = numbered_below 0 n u (eliminated_has n _ _ (length-range_with_len 0 n) (numbered_distinct 0 n) u (sym (has_reverse us u) ∙ h)) in omega arith)

@@ -1,12 +1,12 @@
 -- Which variables are joined, and what it joins to eliminate one.
-use Rattle.std.specs.Prelude.{ℕ, ◌+◌, Bool, false, cond, not, ◌&&◌, ◌||◌, List, [], ◌∷◌, map, Some, None, Option, ◌==◌, nat_lt, slice_index}
+use Rattle.std.specs.Prelude.{ℕ, ◌+◌, Bool, cond, not, ◌&&◌, List, [], ◌∷◌, map, filter, count_by, Some, None, Option, ◌==◌, nat_lt, slice_index}
+use Rattle.std.specs.List.{list_any}
 use Rattle.variables.specs.Lists.{has}
 use Rattle.problems.specs.Records.{Placed}
 
 -- two variables are joined if one of the cliques has both
 abbrev pub joined : List (List ℕ) → ℕ → ℕ → Bool
-joined [] a b = false
-joined (c ∷ cs) a b = (has c a && has c b) || joined cs a b
+joined cs a b = list_any (λ c. has c a && has c b) cs
 
 -- whether u is another variable that v is joined with
 abbrev pub nearby : List (List ℕ) → ℕ → ℕ → Bool
@@ -14,13 +14,11 @@ nearby cs v u = not (u == v) && joined cs v u
 
 -- the variables that v is joined with, of those that are left
 abbrev pub neighbours : List (List ℕ) → List ℕ → ℕ → List ℕ
-neighbours cs [] v = []
-neighbours cs (u ∷ us) v = cond (nearby cs v u) (u ∷ neighbours cs us v) (neighbours cs us v)
+neighbours cs us v = filter (nearby cs v) us
 
 -- how many of the variables a is not joined with
 abbrev pub apart : List (List ℕ) → ℕ → List ℕ → ℕ
-apart cs a [] = 0
-apart cs a (b ∷ bs) = cond (joined cs a b) 0 1 + apart cs a bs
+apart cs a bs = count_by (λ b. not (joined cs a b)) bs
 
 -- how many pairs of the variables are not joined
 abbrev pub gaps : List (List ℕ) → List ℕ → ℕ
@@ -42,13 +40,13 @@ fewest cs left = fewest_from cs left (slice_index left 0) left
 
 -- the variables but one
 abbrev pub others : List ℕ → ℕ → List ℕ
-others [] v = []
-others (u ∷ us) v = cond (u == v) (others us v) (u ∷ others us v)
+others us v = filter (λ u. not (u == v)) us
 
 -- every scope is a clique
 abbrev pub scopes : List Placed → List (List ℕ)
 scopes fs = map (λ (f : Placed). f.scope) fs
 
+-- a function's variables, none where there is no such function
 abbrev pub scope_or_none : Option Placed → List ℕ
 scope_or_none None = []
 scope_or_none (Some f) = f.scope

@@ -1,12 +1,12 @@
 -- Orders of a job's variables.
 use Rattle.std.specs.Prelude.{ℕ, zero, suc, List, [], ◌∷◌, ◌++◌, reverse, length}
+use Rattle.std.specs.List.{range_with_len}
 use Rattle.problems.specs.Outlines.{Outline}
 use Rattle.orders.specs.Cliques.{neighbours, fewest, others, scopes}
 
 -- 0, 1, 2 and so on, n of them
 abbrev pub numbered : ℕ → List ℕ
-numbered zero = []
-numbered (suc n) = numbered n ++ n ∷ []
+numbered n = range_with_len 0 n
 
 -- n variables eliminated one after the other: what joins the fewest pairs goes next, and its neighbours are a clique then
 abbrev pub eliminated : ℕ → List (List ℕ) → List ℕ → List ℕ

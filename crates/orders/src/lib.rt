@@ -2,6 +2,6 @@
 #![tactic(auto)]
 
 mod cliques;
-mod fill;
+mod elimination;
 pub mod min_fill;
 pub mod natural;

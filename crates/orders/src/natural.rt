@@ -12,9 +12,6 @@ pub fn natural(heap: Global, shape: &Shape) -> Result<Vec<u8>, AllocError>
     ensures { IfOk result (λ v. (v.items ≡ numbered (length (outline shape.now).sizes))
         × (is_order (length (outline shape.now).sizes) v.items ≡ true)) }
 {
-    let mut variables = Vec::new(heap);
-    for v in 0..shape.sizes().len() {
-        variables.push(v as u8)?;
-    }
-    Ok(variables)
+    let count = shape.sizes().len() as u8;
+    (0..count).collect(heap)
 }

@@ -17,20 +17,19 @@ struct Opened {
     variables: usize,
 }
 
-// An area by its number; where none is named, the one given.
-fn part(parts: &[Part], area: Option<usize>, left_out: Part) -> Part {
-    match area {
-        Some(k) if k < parts.len() => parts[k],
-        _ => left_out,
-    }
-}
-
 impl Opened {
     fn none(parts: &[Part]) -> Opened {
         Opened {
-            area: part(parts, Some(0), Part { start: 0, len: 0 }),
+            area: parts.first().copied().unwrap_or(Part { start: 0, len: 0 }),
             variables: 0,
         }
+    }
+
+    // An area by its number; where none is named, that of the last accepted open.
+    fn part(self, area: Option<usize>, parts: &[Part]) -> Part {
+        area.and_then(|k| parts.get(k))
+            .copied()
+            .unwrap_or(self.area)
     }
 
     // The call that a line asks for, with what the line leaves out.
@@ -38,12 +37,12 @@ impl Opened {
         match request {
             Request::Open { sizes, area } => Call::Open {
                 sizes,
-                area: part(parts, area, self.area),
+                area: self.part(area, parts),
             },
             Request::Enter { scope, cost, area } => Call::Enter {
                 scope,
                 cost,
-                area: part(parts, area, self.area),
+                area: self.part(area, parts),
             },
             Request::Amend {
                 function,
@@ -54,20 +53,20 @@ impl Opened {
                 function: function as usize,
                 tuple,
                 cost,
-                area: part(parts, area, self.area),
+                area: self.part(area, parts),
             },
             Request::Prepare { order, limit, area } => Call::Prepare {
                 order,
                 limit,
-                area: part(parts, area, self.area),
+                area: self.part(area, parts),
             },
             Request::Step { budget, area } => Call::Step {
                 budget,
-                area: part(parts, area, self.area),
+                area: self.part(area, parts),
             },
             Request::Report { buffer, area } => Call::Report {
                 buffer: self.buffer(buffer),
-                area: part(parts, area, self.area),
+                area: self.part(area, parts),
             },
             Request::Reopen => Call::Reopen,
             Request::Close => Call::Close,
@@ -76,11 +75,10 @@ impl Opened {
 
     // A buffer of that length, or of one place for each variable.
     fn buffer(self, length: Option<u8>) -> Part {
-        let len = match length {
-            Some(length) => length as usize,
-            None => self.variables,
-        };
-        Part { start: 0, len }
+        Part {
+            start: 0,
+            len: length.map_or(self.variables, |length| usize::from(length)),
+        }
     }
 
     // What is known after a call. Only open and close lead from Closed and to it, so a job that makes these two alone tells which opens are accepted.

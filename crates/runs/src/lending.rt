@@ -1,16 +1,14 @@
 // The lent areas, one behind the other.
-ghost use Rattle.std.specs.Prelude.{◌≡◌, replicate, IfOk};
-
-use costs::Cost;
 use replay::calls::Part;
 use std::alloc::{AllocError, Global};
 
 // The parts of the cells that areas of these lengths are.
+// Not a chain: each part starts where the one before it ends, and a loop says so more plainly than scan.
 pub(crate) fn parts_of(heap: Global, lengths: &[u16]) -> Result<Vec<Part>, AllocError> {
     let mut parts = Vec::new(heap);
     let mut start = 0usize;
     for length in lengths {
-        let len = *length as usize;
+        let len = usize::from(*length);
         parts.push(Part { start, len })?;
         start = start.saturating_add(len);
     }
@@ -19,32 +17,16 @@ pub(crate) fn parts_of(heap: Global, lengths: &[u16]) -> Result<Vec<Part>, Alloc
 
 // How many cells the areas have together.
 pub(crate) fn cells_of(lengths: &[u16]) -> usize {
-    let mut cells = 0usize;
-    for length in lengths {
-        cells = cells.saturating_add(*length as usize);
-    }
-    cells
+    lengths.iter().fold(
+        0usize,
+        |cells, length| cells.saturating_add(usize::from(*length)),
+    )
 }
 
 // The cells of a part, none where it passes their end.
-pub(crate) fn lent<C: Cost>(cells: &[C], part: Part) -> &[C] {
-    let start = part.start;
-    let len = part.len;
-    if start <= cells.len() && len <= cells.len() - start {
-        let end = start + len;
-        &cells[start..end]
-    } else {
-        &cells[0..0]
-    }
-}
-
-// So many cells of one content.
-pub(crate) fn filled<C: Cost>(heap: Global, content: C, count: usize) -> Result<Vec<C>, AllocError>
-    ensures { IfOk result (λ v. v.items ≡ replicate count content) }
-{
-    let mut cells = Vec::new(heap);
-    for k in 0..count {
-        cells.push(content)?;
-    }
-    Ok(cells)
+pub(crate) fn lent<C>(cells: &[C], part: Part) -> &[C] {
+    part.start
+        .checked_add(part.len)
+        .and_then(|end| cells.get(part.start..end))
+        .unwrap_or(&[])
 }

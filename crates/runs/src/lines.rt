@@ -9,6 +9,7 @@ use scripts::written::Written;
 use std::alloc::{AllocError, Global};
 
 // The word that a call begins its line with.
+// Not an impl of Display, here and below: calls, stages and verdicts stand in other crates.
 fn name<C>(call: &Call<C>) -> &'static str {
     match call {
         Call::Open { .. } => "open",
@@ -81,15 +82,6 @@ fn shows_setting(verdict: Verdict) -> bool {
     matches!(verdict, Verdict::Best | Verdict::SoFar)
 }
 
-// The values, each with a blank before it.
-fn values(line: &mut String, heap: Global, list: &[u8]) -> Result<(), AllocError> {
-    for v in list {
-        let word = format!(in heap; " {v}")?;
-        line.push_str(word.as_str())?;
-    }
-    Ok(())
-}
-
 // report: best V... cost C bottom B visits N, and so on
 fn reported<C: Written>(
     heap: Global,
@@ -99,13 +91,14 @@ fn reported<C: Written>(
     let word = verdict_word(report.verdict);
     let mut line = format!(in heap; "report: {word}")?;
     if shows_setting(report.verdict) {
-        values(&mut line, heap, shown.values())?;
+        for value in shown.values() {
+            write!(line, " {value}")?;
+        }
     }
     let cost = report.cost.show(heap)?;
     let bottom = report.bottom.show(heap)?;
     let visits = report.visits;
-    let rest = format!(in heap; " cost {cost} bottom {bottom} visits {visits}\n")?;
-    line.push_str(rest.as_str())?;
+    writeln!(line, " cost {cost} bottom {bottom} visits {visits}")?;
     Ok(line)
 }
 

@@ -1,2 +1,0 @@
-mod Commas
-mod Endings

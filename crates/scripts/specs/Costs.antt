@@ -1,5 +1,6 @@
 -- Costs as words: what a word spells, and what is printed of a cost.
-use Rattle.std.specs.Prelude.{ℕ, suc, ◌+◌, cond, List, [], ◌∷◌, ◌++◌, length, take, drop, Some, None, codes, decimal, Option, ◌==◌, nat_le, nat_lt}
+use Rattle.std.specs.Prelude.{ℕ, ◌+◌, cond, List, ◌++◌, length, take, drop, Some, None, codes, decimal, Option, ◌==◌, nat_le, nat_lt}
+use Rattle.std.specs.List.{position_or_len}
 use Rattle.costs.specs.declared.pair.Pair.{Pair}
 use Rattle.costs.specs.Kinds.{ranked_of}
 use Rattle.words.specs.Numbers.{number}
@@ -19,9 +20,9 @@ worst_word word = at_most 65535 (number word)
 
 -- the place of the first comma, or the word's end
 abbrev pub comma : List ℕ → ℕ
-comma [] = 0
-comma (b ∷ bytes) = cond (b == 44) 0 (suc (comma bytes))
+comma word = position_or_len (λ b. b == 44) word
 
+-- the pair of two numbers, if both are there
 abbrev pub both : Option ℕ → Option ℕ → Option Pair
 both None second = None
 both (Some a) None = None

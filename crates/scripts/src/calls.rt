@@ -2,7 +2,7 @@
 use crate::flaw::Flaw;
 use crate::heading::cost;
 use crate::lines::Line;
-use crate::numbers::{end, large, listed, small, word};
+use crate::numbers::{end, listed, number, wanted, word};
 use crate::script::Request;
 use crate::written::Written;
 use std::alloc::Global;
@@ -10,7 +10,7 @@ use words::reader::Reader;
 
 // The number of an area that was declared.
 fn area_number(words: &mut Reader, areas: usize) -> Result<usize, Flaw> {
-    let number = large(words)? as usize;
+    let number = number::<u32>(wanted(words)?)? as usize;
     if number < areas {
         Ok(number)
     } else {
@@ -33,8 +33,7 @@ fn area_from(next: Option<&[u8]>, words: &mut Reader, areas: usize) -> Result<Op
 
 // The line's end, with `in AREA` before it or without.
 fn area(words: &mut Reader, areas: usize) -> Result<Option<usize>, Flaw> {
-    let next = word(words);
-    area_from(next, words, areas)
+    area_from(word(words), words, areas)
 }
 
 // open SIZE... [in AREA]
@@ -49,87 +48,71 @@ fn open<C: Written>(heap: Global, words: &mut Reader, areas: usize) -> Result<Re
 
 // enter [VARIABLE...] cost COST [in AREA]
 fn enter<C: Written>(heap: Global, words: &mut Reader, areas: usize) -> Result<Request<C>, Flaw> {
-    let scope = listed(heap, words)?;
-    if scope.behind != Some(b"cost") {
-        return Err(Flaw::Word);
-    }
-    let cost = cost(words)?;
-    let area = area(words, areas)?;
     Ok(Request::Enter {
-        scope: scope.numbers,
-        cost,
-        area,
+        scope: listed(heap, words)?.before(b"cost")?,
+        cost: cost(words)?,
+        area: area(words, areas)?,
     })
 }
 
 // amend FUNCTION [at VALUE...] cost COST [in AREA]
 fn amend<C: Written>(heap: Global, words: &mut Reader, areas: usize) -> Result<Request<C>, Flaw> {
-    let function = large(words)?;
+    let function = number(wanted(words)?)?;
     let tuple = match word(words) {
         Some(b"at") => tuple(heap, words)?,
         Some(b"cost") => Vec::new(heap),
         _ => return Err(Flaw::Word),
     };
-    let cost = cost(words)?;
-    let area = area(words, areas)?;
     Ok(Request::Amend {
         function,
         tuple,
-        cost,
-        area,
+        cost: cost(words)?,
+        area: area(words, areas)?,
     })
 }
 
 // VALUE... cost, at least one value
 fn tuple(heap: Global, words: &mut Reader) -> Result<Vec<u8>, Flaw> {
-    let values = listed(heap, words)?;
-    if values.numbers.is_empty() || values.behind != Some(b"cost") {
+    let values = listed(heap, words)?.before(b"cost")?;
+    if values.is_empty() {
         return Err(Flaw::Word);
     }
-    Ok(values.numbers)
+    Ok(values)
 }
 
 // prepare VARIABLE... limit COST [in AREA]
 fn prepare<C: Written>(heap: Global, words: &mut Reader, areas: usize) -> Result<Request<C>, Flaw> {
-    let order = listed(heap, words)?;
-    if order.behind != Some(b"limit") {
-        return Err(Flaw::Word);
-    }
-    let limit = cost(words)?;
-    let area = area(words, areas)?;
     Ok(Request::Prepare {
-        order: order.numbers,
-        limit,
-        area,
+        order: listed(heap, words)?.before(b"limit")?,
+        limit: cost(words)?,
+        area: area(words, areas)?,
     })
 }
 
 // step BUDGET [in AREA]
 fn step<C: Written>(words: &mut Reader, areas: usize) -> Result<Request<C>, Flaw> {
-    let budget = large(words)?;
-    let area = area(words, areas)?;
-    Ok(Request::Step { budget, area })
+    Ok(Request::Step {
+        budget: number(wanted(words)?)?,
+        area: area(words, areas)?,
+    })
 }
 
 // report [buffer LENGTH] [in AREA]
 fn report<C: Written>(words: &mut Reader, areas: usize) -> Result<Request<C>, Flaw> {
     match word(words) {
-        Some(b"buffer") => {
-            let length = small(words)?;
-            let area = area(words, areas)?;
-            Ok(Request::Report {
-                buffer: Some(length),
-                area,
-            })
-        }
-        next => {
-            let area = area_from(next, words, areas)?;
-            Ok(Request::Report { buffer: None, area })
-        }
+        Some(b"buffer") => Ok(Request::Report {
+            buffer: Some(number(wanted(words)?)?),
+            area: area(words, areas)?,
+        }),
+        next => Ok(Request::Report {
+            buffer: None,
+            area: area_from(next, words, areas)?,
+        }),
     }
 }
 
 // A call: its name, and what it brings.
+// Not a table of functions: some calls need no heap, and two bring nothing.
 pub(crate) fn call<C: Written>(
     heap: Global,
     line: &mut Line,
@@ -142,14 +125,8 @@ pub(crate) fn call<C: Written>(
         b"prepare" => prepare(heap, &mut line.rest, areas),
         b"step" => step(&mut line.rest, areas),
         b"report" => report(&mut line.rest, areas),
-        b"reopen" => {
-            end(&mut line.rest)?;
-            Ok(Request::Reopen)
-        }
-        b"close" => {
-            end(&mut line.rest)?;
-            Ok(Request::Close)
-        }
+        b"reopen" => end(&mut line.rest).map(|()| Request::Reopen),
+        b"close" => end(&mut line.rest).map(|()| Request::Close),
         _ => Err(Flaw::Call),
     }
 }

@@ -1,8 +1,7 @@
 // How each of the three kinds of cost is written.
-ghost use Rattle.std.specs.Prelude.{◌≡◌, IfOk, string_bytes, decimal};
-ghost use Rattle.scripts.specs.Costs.{both, comma, pair_line, ranked_word, ranked_line, sum_word, worst_word};
+ghost use Rattle.std.specs.Prelude.{◌≡◌, decimal, ◌==◌, position};
+ghost use Rattle.scripts.specs.Costs.{ranked_word, ranked_line, sum_word, worst_word};
 
-use crate::numbers::narrow;
 use crate::written::Written;
 use costs::Pair;
 use std::alloc::{AllocError, Global};
@@ -18,16 +17,8 @@ impl Written for u32 {
     }
 
     fn show(self, heap: Global) -> Result<String, AllocError> {
-        let cost = self;
-        format!(in heap; "{cost}")
+        self.to_string(heap)
     }
-}
-
-// A number of 16 bits.
-fn number_16(word: &[u8]) -> Option<u16>
-    ensures { result ≡ worst_word word.now }
-{
-    narrow(parsed(word))
 }
 
 impl Written for u16 {
@@ -36,44 +27,19 @@ impl Written for u16 {
     ghost printed = { decimal };
 
     fn read(word: &[u8]) -> Option<u16> {
-        number_16(word)
+        parsed(word).and_then(|number| u16::try_from(number).ok())
     }
 
     fn show(self, heap: Global) -> Result<String, AllocError> {
-        let cost = self;
-        format!(in heap; "{cost}")
+        self.to_string(heap)
     }
 }
 
-// The place of the first comma, or the word's end.
-fn comma_of(word: &[u8]) -> usize
-    ensures { result ≡ comma word.now }
+// The place of the first comma.
+fn comma(word: &[u8]) -> Option<usize>
+    ensures { result ≡ position (λ b. b == 44) word.now }
 {
-    for (at, byte) in word.iter().enumerate() {
-        if *byte == b',' {
-            return at;
-        }
-    }
-    word.len()
-}
-
-// The pair of two numbers, if both are there.
-fn pair_of(first: Option<u16>, second: Option<u16>) -> Option<Pair>
-    ensures { result ≡ both first second }
-{
-    match (first, second) {
-        (Some(first), Some(second)) => Some(Pair { first, second }),
-        _ => None,
-    }
-}
-
-// Both numbers, with a comma between them.
-fn pair_line(heap: Global, pair: Pair) -> Result<String, AllocError>
-    ensures { IfOk result (λ s. string_bytes s ≡ pair_line pair) }
-{
-    let first = pair.first;
-    let second = pair.second;
-    format!(in heap; "{first},{second}")
+    word.iter().position(|byte| *byte == b',')
 }
 
 impl Written for Pair {
@@ -82,16 +48,14 @@ impl Written for Pair {
     ghost printed = { ranked_line };
 
     fn read(word: &[u8]) -> Option<Pair> {
-        let at = comma_of(word);
-        if at >= word.len() {
-            return None;
-        }
-        pair_of(number_16(&word[0..at]), number_16(&word[at + 1..]))
+        let at = comma(word)?;
+        let first = u16::read(&word[..at])?;
+        let second = u16::read(&word[at + 1..])?;
+        Some(Pair { first, second })
     }
 
     fn show(self, heap: Global) -> Result<String, AllocError> {
-        let made = Pair::ranked(self.first, self.second);
-        let line = pair_line(heap, made)?;
-        Ok(line)
+        let Pair { first, second } = Pair::ranked(self.first, self.second);
+        format!(in heap; "{first},{second}")
     }
 }

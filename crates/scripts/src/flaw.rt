@@ -38,6 +38,7 @@ impl<T: Drop> From<NoPlace<T>> for Flaw {
 
 impl Flaw {
     // What is said of it.
+    // Not an impl of Display: the callers above print it by this name.
     pub fn says(self) -> &'static str {
         match self {
             Flaw::Memory => "no memory",

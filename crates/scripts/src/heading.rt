@@ -1,22 +1,18 @@
 // The three heading lines.
 use crate::flaw::Flaw;
 use crate::lines::Line;
-use crate::numbers::{end, narrow, small, word};
+use crate::numbers::{end, number, wanted, word};
 use crate::script::{Areas, Kind, SourceName};
 use crate::written::Written;
 use std::alloc::Global;
-use words::number::parsed;
 use words::reader::Reader;
 
 // costs sum|worst|ranked
 pub(crate) fn kind_line(line: &mut Line) -> Result<Kind, Flaw> {
-    if line.name != b"costs".as_slice() {
-        return Err(Flaw::Costs);
-    }
-    let kind = match word(&mut line.rest) {
-        Some(b"sum") => Kind::Sum,
-        Some(b"worst") => Kind::Worst,
-        Some(b"ranked") => Kind::Ranked,
+    let kind = match (line.name, word(&mut line.rest)) {
+        (b"costs", Some(b"sum")) => Kind::Sum,
+        (b"costs", Some(b"worst")) => Kind::Worst,
+        (b"costs", Some(b"ranked")) => Kind::Ranked,
         _ => return Err(Flaw::Costs),
     };
     end(&mut line.rest)?;
@@ -25,13 +21,12 @@ pub(crate) fn kind_line(line: &mut Line) -> Result<Kind, Flaw> {
 
 // source paid | source first-choice | source mini-bucket W
 pub(crate) fn source_line(line: &mut Line) -> Result<SourceName, Flaw> {
-    if line.name != b"source".as_slice() {
-        return Err(Flaw::Source);
-    }
-    let source = match word(&mut line.rest) {
-        Some(b"paid") => SourceName::Paid,
-        Some(b"first-choice") => SourceName::FirstChoice,
-        Some(b"mini-bucket") => SourceName::MiniBucket(small(&mut line.rest)?),
+    let source = match (line.name, word(&mut line.rest)) {
+        (b"source", Some(b"paid")) => SourceName::Paid,
+        (b"source", Some(b"first-choice")) => SourceName::FirstChoice,
+        (b"source", Some(b"mini-bucket")) => {
+            SourceName::MiniBucket(number(wanted(&mut line.rest)?)?)
+        }
         _ => return Err(Flaw::Source),
     };
     end(&mut line.rest)?;
@@ -40,10 +35,7 @@ pub(crate) fn source_line(line: &mut Line) -> Result<SourceName, Flaw> {
 
 // The cost that the next word spells.
 pub(crate) fn cost<C: Written>(words: &mut Reader) -> Result<C, Flaw> {
-    match word(words) {
-        Some(word) => C::read(word).ok_or(Flaw::Cost),
-        None => Err(Flaw::Word),
-    }
+    C::read(wanted(words)?).ok_or(Flaw::Cost)
 }
 
 // areas LENGTH... [of COST]
@@ -67,7 +59,7 @@ fn lent<C: Written>(heap: Global, words: &mut Reader) -> Result<Areas<C>, Flaw> 
             end(words)?;
             return Ok(Areas { lengths, content });
         }
-        lengths.push(narrow(parsed(next)).ok_or(Flaw::Middle)?)?;
+        lengths.push(number(next)?)?;
     }
     Ok(Areas {
         lengths,

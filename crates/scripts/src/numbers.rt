@@ -1,61 +1,51 @@
-// Numbers within a range.
+// The words of a line, and numbers within a range.
 ghost use Rattle.std.specs.Prelude.{◌≡◌};
 ghost use Rattle.std.specs.Option.{option_map};
 ghost use Rattle.words.specs.Readers.{left_of};
 ghost use Rattle.words.specs.Readings.{rest_of};
-ghost use Rattle.scripts.specs.Costs.{at_most};
 ghost use Rattle.scripts.specs.Lines.{first_word};
 
 use crate::flaw::Flaw;
 use std::alloc::Global;
+use std::num::TryFromIntError;
 use words::number::parsed;
 use words::reader::Reader;
-
-// A number from 0 to 65,535.
-pub(crate) fn narrow(number: Option<u32>) -> Option<u16>
-    ensures { result ≡ at_most 65535 number }
-{
-    match number {
-        Some(n) if n <= 65_535 => Some(n as u16),
-        _ => None,
-    }
-}
-
-// A number from 0 to 255.
-pub(crate) fn short(number: Option<u32>) -> Option<u8>
-    ensures { result ≡ at_most 255 number }
-{
-    match number {
-        Some(n) if n <= 255 => Some(n as u8),
-        _ => None,
-    }
-}
 
 // The next word, if there is one.
 pub(crate) fn word<'a>(words: &mut Reader<'a>) -> Option<&'a [u8]>
     ensures read { option_map (λ x. x.now) result ≡ first_word (left_of words.old) }
     ensures moved { left_of words.new ≡ rest_of (left_of words.old) }
 {
-    match words.word() {
-        Ok(word) => Some(word.bytes),
-        Err(_) => None,
-    }
+    words.word().ok().map(|word| word.bytes)
 }
 
-// The next word as a number from 0 to 255.
-pub(crate) fn small(words: &mut Reader) -> Result<u8, Flaw> {
-    match word(words) {
-        Some(word) => short(parsed(word)).ok_or(Flaw::Small),
-        None => Err(Flaw::Word),
-    }
+// The next word, which has to be there.
+pub(crate) fn wanted<'a>(words: &mut Reader<'a>) -> Result<&'a [u8], Flaw> {
+    word(words).ok_or(Flaw::Word)
 }
 
-// The next word as a number of 32 bits.
-pub(crate) fn large(words: &mut Reader) -> Result<u32, Flaw> {
-    match word(words) {
-        Some(word) => parsed(word).ok_or(Flaw::Large),
-        None => Err(Flaw::Word),
-    }
+// A range of numbers, and what is said where one of them is wanted.
+pub(crate) trait Ranged: TryFrom<u32, Error = TryFromIntError> {
+    const FLAW: Flaw;
+}
+
+impl Ranged for u8 {
+    const FLAW: Flaw = Flaw::Small;
+}
+
+impl Ranged for u16 {
+    const FLAW: Flaw = Flaw::Middle;
+}
+
+impl Ranged for u32 {
+    const FLAW: Flaw = Flaw::Large;
+}
+
+// The number that a word spells.
+pub(crate) fn number<N: Ranged>(word: &[u8]) -> Result<N, Flaw> {
+    parsed(word)
+        .and_then(|n| N::try_from(n).ok())
+        .ok_or(N::FLAW)
 }
 
 // No word may be left over.
@@ -68,10 +58,7 @@ pub(crate) fn end(words: &mut Reader) -> Result<(), Flaw> {
 
 // Whether a word begins as a number does.
 fn numeric(word: &[u8]) -> bool {
-    match word {
-        [first, ..] => *first >= b'0' && *first <= b'9',
-        [] => false,
-    }
+    word.first().is_some_and(|byte| byte.is_ascii_digit())
 }
 
 // Numbers from 0 to 255, and the first word behind them, if there is one.
@@ -79,6 +66,17 @@ fn numeric(word: &[u8]) -> bool {
 pub(crate) struct List<'a> {
     pub numbers: Vec<u8>,
     pub behind: Option<&'a [u8]>,
+}
+
+impl List<'_> {
+    // The numbers, where this word stands behind them.
+    pub(crate) fn before(self, word: &[u8]) -> Result<Vec<u8>, Flaw> {
+        if self.behind == Some(word) {
+            Ok(self.numbers)
+        } else {
+            Err(Flaw::Word)
+        }
+    }
 }
 
 // The numbers up to the first word that is none.
@@ -91,7 +89,7 @@ pub(crate) fn listed<'a>(heap: Global, words: &mut Reader<'a>) -> Result<List<'a
                 behind: Some(next),
             });
         }
-        numbers.push(short(parsed(next)).ok_or(Flaw::Small)?)?;
+        numbers.push(number(next)?)?;
     }
     Ok(List {
         numbers,

@@ -1,10 +1,8 @@
 // A script, read to its end.
-ghost use Rattle.std.specs.Prelude.{◌≡◌};
-
 use crate::calls::call;
 use crate::flaw::{Flaw, Mistake};
 use crate::heading::{areas_line, kind_line, source_line};
-use crate::lines::{Line, line_from};
+use crate::lines::line_at;
 use crate::written::Written;
 use std::alloc::Global;
 
@@ -74,75 +72,45 @@ pub struct Script<C> {
     pub requests: Vec<Request<C>>,
 }
 
-// A flaw in a line.
-fn mistake(line: usize, flaw: Flaw) -> Mistake
-    ensures { (result.line ≡ line) × (result.flaw ≡ flaw) }
-{
-    Mistake { line, flaw }
-}
-
-// The next line, which has to be there.
-fn heading_line<'a>(
-    text: &'a [u8],
-    from: usize,
-    number: usize,
-    wanted: Flaw,
-) -> Result<Line<'a>, Mistake> {
-    match line_from(text, from, number) {
-        Some(line) => Ok(line),
-        None => Err(mistake(number.saturating_add(1), wanted)),
-    }
-}
-
-// A line's value, or its flaw with the line's number.
-fn located<T>(line: usize, read: Result<T, Flaw>) -> Result<T, Mistake> {
-    match read {
-        Ok(value) => Ok(value),
-        Err(flaw) => Err(mistake(line, flaw)),
+// A heading line that is missing, behind that many lines.
+fn missing(lines: usize, flaw: Flaw) -> Mistake {
+    Mistake {
+        line: lines.saturating_add(1),
+        flaw,
     }
 }
 
 // The cost structure, which the first line names.
 pub fn kind_of(text: &[u8]) -> Result<Kind, Mistake> {
-    let mut line = heading_line(text, 0, 0, Flaw::Costs)?;
-    let kind = kind_line(&mut line);
-    located(line.number, kind)
+    let mut line = text
+        .split(|byte| *byte == b'\n')
+        .enumerate()
+        .find_map(line_at)
+        .ok_or(missing(0, Flaw::Costs))?;
+    kind_line(&mut line).map_err(|flaw| line.mistake(flaw))
 }
 
 // The whole script, once its cost structure is known.
 pub fn script_of<C: Written>(heap: Global, text: &[u8]) -> Result<Script<C>, Mistake> {
-    let first = heading_line(text, 0, 0, Flaw::Costs)?;
-    let mut second = heading_line(text, first.after, first.number, Flaw::Source)?;
-    let source = source_line(&mut second);
-    let source = located(second.number, source)?;
-    let mut third = heading_line(text, second.after, second.number, Flaw::Areas)?;
-    let areas = areas_line(heap, &mut third);
-    let areas: Areas<C> = located(third.number, areas)?;
-    let requests = requests(heap, text, &third, areas.lengths.len())?;
+    let mut lines = text
+        .split(|byte| *byte == b'\n')
+        .enumerate()
+        .filter_map(line_at);
+    let first = lines.next().ok_or(missing(0, Flaw::Costs))?;
+    let mut second = lines.next().ok_or(missing(first.number, Flaw::Source))?;
+    let source = source_line(&mut second).map_err(|flaw| second.mistake(flaw))?;
+    let mut third = lines.next().ok_or(missing(second.number, Flaw::Areas))?;
+    let areas = areas_line::<C>(heap, &mut third).map_err(|flaw| third.mistake(flaw))?;
+    let mut requests = Vec::new(heap);
+    for mut line in lines {
+        let request = call(heap, &mut line, areas.lengths.len());
+        requests
+            .push(request.map_err(|flaw| line.mistake(flaw))?)
+            .map_err(|_| line.mistake(Flaw::Memory))?;
+    }
     Ok(Script {
         source,
         areas,
         requests,
     })
-}
-
-// A call for each line behind the heading's last.
-fn requests<C: Written>(
-    heap: Global,
-    text: &[u8],
-    heading: &Line,
-    areas: usize,
-) -> Result<Vec<Request<C>>, Mistake> {
-    let mut requests = Vec::new(heap);
-    let mut at = heading.after;
-    let mut number = heading.number;
-    while let Some(mut line) = line_from(text, at, number) {
-        at = line.after;
-        number = line.number;
-        let request = call(heap, &mut line, areas);
-        if let Err(_) = requests.push(located(number, request)?) {
-            return Err(mistake(number, Flaw::Memory));
-        }
-    }
-    Ok(requests)
 }

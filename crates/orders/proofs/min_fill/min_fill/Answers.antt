@@ -8,5 +8,5 @@ use Rattle.orders.proofs.min_fill.min_fill.Goals as goal
 pub returns : goal.returns
 returns c =
     let o = outline c.args.shape.now in
-    let is : vec_items c.in_ok-order.order ≡ min_fill o = c.in_ok-order.ensures ∙ ap reverse (c.as_slice.ensures.value ∙ c.in_ok-gone.ensures) in
+    let is : vec_items c.reverse.new.self ≡ min_fill o = c.reverse.ensures.items ∙ ap reverse c.in_ok-order.ensures in
     (is, ap (is_order (length o.sizes)) is ∙ min_fill_order o)
