@@ -23,6 +23,7 @@ use wcsp::load::{load, name};
 use words::fault::Fault;
 
 // Why there is no page of messages.
+// Not one enum with `Failure`: of what one page can fail by the other knows only half, and its `match` would be longer.
 #[derive(Drop)]
 pub enum Unmade {
     Memory,
@@ -61,7 +62,7 @@ fn order_of(heap: Global, along: &Along, shape: &Shape) -> Result<Vec<u8>, Alloc
     match along {
         Along::Natural => natural(heap, shape),
         Along::MinFill => min_fill(heap, shape),
-        Along::Listed(variables) => variables.as_slice().iter().copied().collect(heap),
+        Along::Listed(variables) => variables.clone(),
     }
 }
 
