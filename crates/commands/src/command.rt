@@ -3,12 +3,11 @@ ghost use Rattle.std.specs.Prelude.{◌≡◌, ◌<◌, Some};
 ghost use Rattle.words.specs.Numbers.{number};
 ghost use Rattle.commands.specs.Values.{ValueOf};
 
-use crate::options::asked_of;
+use crate::options::{asked_of, byte_of};
 use crate::stop::Stop;
 use pages::asked::Asked;
 use std::alloc::Global;
 use std::env::Args;
-use words::number::parsed;
 
 #[derive(Drop)]
 pub enum Command {
@@ -27,29 +26,28 @@ const USAGE: &str =
 fn value_of(heap: Global, k: usize, word: &str) -> Result<u8, Stop>
     ensures { ValueOf word.now result }
 {
-    match parsed(word.as_bytes()) {
-        Some(value) if value < 256 => Ok(value as u8),
-        _ => Err(Stop::Said(format!(in heap;
-            "planner: value {k} is `{word}`, and not a number from 0 to 255"
-        )?)),
-    }
+    byte_of(word).ok_or_else(|| {
+        Stop::said(
+            heap,
+            format_args!("planner: value {k} is `{word}`, and not a number from 0 to 255"),
+        )
+    })
 }
 
 // The values that the rest of the command line lists.
 fn values_of(heap: Global, words: Args) -> Result<Vec<u8>, Stop> {
-    let mut values = Vec::new(heap);
-    for word in words {
-        values.push(value_of(heap, values.len(), word.as_str())?)?;
-    }
-    Ok(values)
+    words
+        .enumerate()
+        .map(|(k, word)| value_of(heap, k, word.as_str()))
+        .try_collect(heap)
 }
 
 // The word that names the file of a job or a script.
 fn file_of(heap: Global, words: &mut Args, command: &str, what: &str) -> Result<String, Stop> {
-    match words.next() {
-        Some(file) => Ok(file),
-        None => Err(Stop::Said(format!(in heap; "planner {command}: no {what}; {USAGE}")?)),
-    }
+    words.next().ok_or_else(|| Stop::said(
+        heap,
+        format_args!("planner {command}: no {what}; {USAGE}"),
+    ))
 }
 
 // cost JOB VALUE...
@@ -70,7 +68,10 @@ fn floors_of(heap: Global, mut words: Args) -> Result<Command, Stop> {
 fn run_of(heap: Global, mut words: Args) -> Result<Command, Stop> {
     let script = file_of(heap, &mut words, "run", "script")?;
     if let Some(extra) = words.next() {
-        return Err(Stop::Said(format!(in heap; "planner run: `{extra}` is left over; {USAGE}")?));
+        return Err(Stop::said(
+            heap,
+            format_args!("planner run: `{extra}` is left over; {USAGE}"),
+        ));
     }
     Ok(Command::Run { script })
 }
@@ -78,13 +79,14 @@ fn run_of(heap: Global, mut words: Args) -> Result<Command, Stop> {
 // The command after the program's own name.
 pub(crate) fn command_of(heap: Global, mut words: Args) -> Result<Command, Stop> {
     let _program = words.next();
-    let Some(name) = words.next() else {
-        return Err(Stop::Said(format!(in heap; "planner: no command; {USAGE}")?));
-    };
+    let name = words.next().ok_or_else(|| Stop::said(
+        heap,
+        format_args!("planner: no command; {USAGE}"),
+    ))?;
     match name.as_str() {
         "cost" => cost_of(heap, words),
         "floors" => floors_of(heap, words),
         "run" => run_of(heap, words),
-        _ => Err(Stop::Said(format!(in heap; "planner: no command `{name}`; {USAGE}")?)),
+        _ => Err(Stop::said(heap, format_args!("planner: no command `{name}`; {USAGE}"))),
     }
 }

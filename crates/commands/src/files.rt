@@ -15,8 +15,8 @@ fn bytes_of(rt: &HostRuntime, file: &str) -> io::Result<Vec<u8>> {
 
 // The text of a job or a script.
 pub(crate) fn file_text(rt: &HostRuntime, name: &str) -> Result<Vec<u8>, Stop> {
-    match bytes_of(rt, name) {
-        Ok(bytes) => Ok(bytes),
-        Err(e) => Err(Stop::Said(format!(in rt.alloc(); "{name}: cannot be read: {e}")?)),
-    }
+    bytes_of(rt, name).map_err(|e| Stop::said(
+        rt.alloc(),
+        format_args!("{name}: cannot be read: {e}"),
+    ))
 }

@@ -7,4 +7,4 @@ mod options;
 mod performing;
 mod stop;
 
-pub use performing::perform;
+pub use performing::{perform, run};

@@ -1,4 +1,7 @@
 // Carries out what the command line asks for.
+ghost use Rattle.std.specs.Prelude.{◌<◌};
+ghost use Rattle.std.specs.Process.{exit_status};
+
 use crate::command::{Command, command_of};
 use crate::files::file_text;
 use crate::stop::{Stop, failure_stop, trouble_stop, unmade_stop};
@@ -9,48 +12,53 @@ use runs::page::run_page;
 use std::env::args;
 use std::io;
 use std::io::Write;
+use std::process::ExitCode;
 
 // The page that the command line asks for.
 fn page(rt: &HostRuntime) -> Result<Vec<u8>, Stop> {
     let heap = rt.alloc();
-    let words = match args(rt) {
-        Ok(words) => words,
-        Err(e) => return Err(Stop::Said(format!(in heap;
-            "planner: the command line cannot be read: {e}"
-        )?)),
-    };
+    let words = args(rt).map_err(|e| {
+        Stop::said(
+            heap,
+            format_args!("planner: the command line cannot be read: {e}"),
+        )
+    })?;
     match command_of(heap, words)? {
         Command::Cost { job, values } => cost(rt, job.as_str(), values.as_slice()),
         Command::Floors { job, asked } => floors(rt, job.as_str(), &asked),
-        Command::Run { script } => run(rt, script.as_str()),
+        Command::Run { script } => run_script(rt, script.as_str()),
     }
 }
 
 // What one setting costs.
 fn cost(rt: &HostRuntime, job: &str, values: &[u8]) -> Result<Vec<u8>, Stop> {
     let text = file_text(rt, job)?;
-    match cost_page(rt.alloc(), text.as_slice(), values) {
-        Ok(page) => Ok(page),
-        Err(failure) => Err(failure_stop(rt.alloc(), job, failure, values)),
-    }
+    cost_page(rt.alloc(), text.as_slice(), values).map_err(|failure| failure_stop(
+        rt.alloc(),
+        job,
+        failure,
+        values,
+    ))
 }
 
 // The messages and the bottom of a mini-bucket source.
 fn floors(rt: &HostRuntime, job: &str, asked: &Asked) -> Result<Vec<u8>, Stop> {
     let text = file_text(rt, job)?;
-    match messages_page(rt.alloc(), text.as_slice(), asked) {
-        Ok(page) => Ok(page),
-        Err(why) => Err(unmade_stop(rt.alloc(), job, why)),
-    }
+    messages_page(rt.alloc(), text.as_slice(), asked).map_err(|why| unmade_stop(
+        rt.alloc(),
+        job,
+        why,
+    ))
 }
 
 // The answers of a script's calls.
-fn run(rt: &HostRuntime, script: &str) -> Result<Vec<u8>, Stop> {
+fn run_script(rt: &HostRuntime, script: &str) -> Result<Vec<u8>, Stop> {
     let text = file_text(rt, script)?;
-    match run_page(rt.alloc(), text.as_slice()) {
-        Ok(page) => Ok(page),
-        Err(trouble) => Err(trouble_stop(rt.alloc(), script, trouble)),
-    }
+    run_page(rt.alloc(), text.as_slice()).map_err(|trouble| trouble_stop(
+        rt.alloc(),
+        script,
+        trouble,
+    ))
 }
 
 // Prints the page that the command line asks for; a mistake is one line on standard error.
@@ -58,11 +66,15 @@ pub fn perform(rt: &HostRuntime) -> io::Result<()> {
     match page(rt) {
         Ok(page) => rt.stdout().write_all(page.as_slice()),
         Err(stop) => {
-            match stop {
-                Stop::Said(line) => eprintln!(rt; "{line}")?,
-                Stop::Memory => eprintln!(rt; "planner: no memory")?,
-            }
+            eprintln!(rt; "{stop}")?;
             Err(io::Error::other("stopped"))
         }
     }
+}
+
+// A program's whole `main`: 0 where the page was printed, and 1 after a mistake.
+pub fn run(rt: &HostRuntime) -> ExitCode
+    ensures { exit_status result < 2 }
+{
+    perform(rt).map_or(ExitCode::FAILURE, |()| ExitCode::SUCCESS)
 }

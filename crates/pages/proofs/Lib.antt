@@ -1,4 +1,4 @@
+pub mod Spelled
 pub mod Parts
 pub mod Listings
 pub mod Pricings
-pub mod Cells

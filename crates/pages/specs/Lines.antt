@@ -1,5 +1,6 @@
 -- The lines that are printed, byte by byte.
 use Rattle.std.specs.Prelude.{ℕ, ◌+◌, cond, List, [], ◌∷◌, ◌++◌, Some, None, codes, decimal, Option, nat_lt}
+use Rattle.std.specs.Fmt.{◌++?◌}
 use Rattle.words.specs.declared.fault.Fault.{Fault}
 use Rattle.words.specs.Faults.{flaw_number, flaw_carried}
 use Rattle.costs.specs.Structures.{cheaper}
@@ -13,6 +14,11 @@ parted k n = cond (nat_lt 0 k) (codes " " ++ decimal n) (decimal n)
 abbrev pub spaced : ℕ → List ℕ → List ℕ
 spaced k [] = []
 spaced k (n ∷ ns) = parted k n ++ spaced (k + 1) ns
+
+-- what items print with a blank between two, k of them before these; none, if of one of them nothing is said
+abbrev pub spaced_text : {T : Type 0} → (T → Option (List ℕ)) → ℕ → List T → Option (List ℕ)
+spaced_text text k [] = Some []
+spaced_text text k (x ∷ xs) = Some (cond (nat_lt 0 k) (codes " ") []) ++? text x ++? spaced_text text (k + 1) xs
 
 -- job NAME: N variables, M functions, U of A cells
 abbrev pub job_line : List ℕ → ℕ → ℕ → ℕ → ℕ → List ℕ

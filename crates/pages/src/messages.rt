@@ -9,7 +9,7 @@ ghost use Rattle.pages.specs.declared.messages.Unmade.TheVariants.{Memory, Refus
 ghost use Rattle.pages.specs.Messages.{kept_line, kept_lines};
 
 use crate::asked::{Along, Asked};
-use crate::lines::{bottom_line, bucket_line, job_line, message_line, order_line};
+use crate::lines::Page;
 use buckets::mini_bucket::MiniBucket;
 use floors::source::FloorSource;
 use orders::min_fill::min_fill;
@@ -23,6 +23,7 @@ use wcsp::load::{load, name};
 use words::fault::Fault;
 
 // Why there is no page of messages.
+// Not one enum with `Failure`: of what one page can fail by the other knows only half, and its `match` would be longer.
 #[derive(Drop)]
 pub enum Unmade {
     Memory,
@@ -61,7 +62,7 @@ fn order_of(heap: Global, along: &Along, shape: &Shape) -> Result<Vec<u8>, Alloc
     match along {
         Along::Natural => natural(heap, shape),
         Along::MinFill => min_fill(heap, shape),
-        Along::Listed(variables) => variables.as_slice().iter().copied().collect(heap),
+        Along::Listed(variables) => variables.clone(),
     }
 }
 
@@ -74,24 +75,14 @@ fn fits<S: FloorSource<u32>>(source: &S, shape: &Shape, free: usize) -> bool
 
 // The greatest width that fits, if there is one.
 fn widest(shape: &Shape, free: usize) -> Option<u8> {
-    let mut found = None;
-    for width in 1..7u8 {
-        if fits(&MiniBucket::new(width), shape, free) {
-            found = Some(width);
-        }
-    }
-    found
+    (1..=6u8)
+        .rev()
+        .find(|width| fits(&MiniBucket::new(*width), shape, free))
 }
 
 // The width that is asked for, or the greatest that fits.
 fn width_of(asked: Option<u8>, shape: &Shape, free: usize) -> Result<u8, Refusal> {
-    match asked {
-        Some(width) => Ok(width),
-        None => match widest(shape, free) {
-            Some(width) => Ok(width),
-            None => Err(Refusal::Room),
-        },
-    }
+    asked.or_else(|| widest(shape, free)).ok_or(Refusal::Room)
 }
 
 // Has the source fill its cells behind the tables, if it suits and they are there; answers how many.
@@ -114,14 +105,13 @@ fn filled<S: FloorSource<u32>>(
 
 // The line of message k, if there is one.
 fn kept_line(
-    page: &mut Vec<u8>,
-    heap: Global,
+    page: &mut Page,
     k: usize,
     source: &MiniBucket,
     sizes: &Sizes,
     area: &[u32],
 ) -> Result<(), AllocError>
-    ensures { OnOk result (page.new.items ≡ page.old.items
+    ensures { OnOk result (page.new.bytes.items ≡ page.old.bytes.items
         ++ kept_line (sizes_of sizes.now) area.now k (nth (messages source.now) k)) }
 {
     let Some(message) = source.message(k) else {
@@ -132,30 +122,21 @@ fn kept_line(
     let end = start
         .saturating_add(scope.table_cells(sizes))
         .min(area.len());
-    message_line(
-        page,
-        heap,
-        k,
-        scope.variables(),
-        message.origin(),
-        &area[start..end],
-    )?;
-    Ok(())
+    page.message_line(k, scope.variables(), message.origin(), &area[start..end])
 }
 
 // A line for each message.
 fn kept_lines(
-    page: &mut Vec<u8>,
-    heap: Global,
+    page: &mut Page,
     source: &MiniBucket,
     sizes: &Sizes,
     area: &[u32],
 ) -> Result<(), AllocError>
-    ensures { OnOk result (page.new.items ≡ page.old.items
+    ensures { OnOk result (page.new.bytes.items ≡ page.old.bytes.items
         ++ kept_lines (sizes_of sizes.now) area.now 0 (messages source.now)) }
 {
     for k in 0..source.message_count() {
-        kept_line(page, heap, k, source, sizes, area)?;
+        kept_line(page, k, source, sizes, area)?;
     }
     Ok(())
 }
@@ -171,14 +152,15 @@ fn page_in(
     let free = area.len().saturating_sub(shape.used());
     let mut source = MiniBucket::new(width_of(width, shape, free)?);
     let room = filled(&mut source, shape, area)?;
-    let mut page = Vec::new(heap);
-    job_line(&mut page, heap, title, shape, area.len())?;
-    order_line(&mut page, heap, shape.order().variables())?;
-    bucket_line(&mut page, heap, source.width(), room)?;
-    kept_lines(&mut page, heap, &source, &shape.sizes(), area)?;
-    let bottom = source.floor(shape, &Prefix::empty(), area, shape.used());
-    bottom_line(&mut page, heap, bottom)?;
-    Ok(page)
+    let mut page = Page {
+        bytes: Vec::new(heap),
+    };
+    page.job_line(title, shape, area.len())?;
+    page.order_line(shape.order().variables())?;
+    page.bucket_line(source.width(), room)?;
+    kept_lines(&mut page, &source, &shape.sizes(), area)?;
+    page.bottom_line(source.floor(shape, &Prefix::empty(), area, shape.used()))?;
+    Ok(page.bytes)
 }
 
 // The page of messages and bottom of the job that a text describes.

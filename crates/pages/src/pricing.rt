@@ -9,16 +9,16 @@ ghost use Rattle.pages.specs.Records.{record_line, record_lines, record_page, Pr
 ghost use Rattle.wcsp.specs.Loads.{loading};
 ghost use Rattle.pages.specs.Pages.{Priced, Given, failure};
 
-use crate::lines::{function_line, job_line, verdict_line};
+use crate::lines::Page;
 use jobs::job::Job;
-use problems::shape::Shape;
+use problems::shape::{MOST_CELLS, Shape};
 use std::alloc::{AllocError, Global};
 use variables::setting::{Misfit, Setting};
 use wcsp::load::name;
 use words::fault::Fault;
 
 // How many cells a job is priced in.
-pub const CELLS: usize = 16_384;
+pub const CELLS: usize = MOST_CELLS;
 
 // Why there is no price.
 #[derive(Debug, Drop)]
@@ -54,37 +54,34 @@ pub struct NoFloors {}
 
 // The line of function k, if there is one.
 fn record_line(
-    page: &mut Vec<u8>,
-    heap: Global,
+    page: &mut Page,
     k: usize,
     shape: &Shape,
     setting: &Setting,
     area: &[u32],
 ) -> Result<(), AllocError>
-    ensures { OnOk result (page.new.items ≡ page.old.items
+    ensures { OnOk result (page.new.bytes.items ≡ page.old.bytes.items
         ++ record_line (outline shape.now).sizes area.now (of (values_of setting.now)) k (nth (outline shape.now).functions k)) }
 {
     let Some(function) = shape.function(k) else {
         return Ok(());
     };
     let cost = function.cost(&shape.sizes(), setting, area);
-    function_line(page, heap, k, function.scope().variables(), cost)?;
-    Ok(())
+    page.function_line(k, function.scope().variables(), cost)
 }
 
 // A line for each function.
 fn record_lines(
-    page: &mut Vec<u8>,
-    heap: Global,
+    page: &mut Page,
     shape: &Shape,
     setting: &Setting,
     area: &[u32],
 ) -> Result<(), AllocError>
-    ensures { OnOk result (page.new.items ≡ page.old.items
+    ensures { OnOk result (page.new.bytes.items ≡ page.old.bytes.items
         ++ record_lines (outline shape.now).sizes area.now (of (values_of setting.now)) 0 (outline shape.now).functions) }
 {
     for k in 0..shape.function_count() {
-        record_line(page, heap, k, shape, setting, area)?;
+        record_line(page, k, shape, setting, area)?;
     }
     Ok(())
 }
@@ -104,10 +101,7 @@ fn setting_of(values: &[u8], shape: &Shape) -> Result<Setting, Failure>
     ensures { Given (outline shape.now).sizes values.now result }
 {
     let sizes = shape.sizes();
-    match Setting::full(values, &sizes) {
-        Ok(setting) => Ok(setting),
-        Err(misfit) => Err(failure_of(misfit, sizes.len())),
-    }
+    Setting::full(values, &sizes).map_err(|misfit| failure_of(misfit, sizes.len()))
 }
 
 // The page of a job, of its functions' costs at a setting, and of the setting's cost.
@@ -123,11 +117,13 @@ fn page_of(
         × (page.items ≡ record_page name.now (outline shape.now) area.now (of (values_of setting.now)) cost upper)) }
 {
     let cost = shape.cost(setting, area);
-    let mut page = Vec::new(heap);
-    job_line(&mut page, heap, name, shape, area.len())?;
-    record_lines(&mut page, heap, shape, setting, area)?;
-    verdict_line(&mut page, heap, cost, upper)?;
-    Ok(page)
+    let mut page = Page {
+        bytes: Vec::new(heap),
+    };
+    page.job_line(name, shape, area.len())?;
+    record_lines(&mut page, shape, setting, area)?;
+    page.verdict_line(cost, upper)?;
+    Ok(page.bytes)
 }
 
 // The page of a setting's cost in the job that a text describes, with its tables in a lent area.

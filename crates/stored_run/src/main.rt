@@ -3,10 +3,6 @@
 
 use std::process::ExitCode;
 
-// A mistake has had its line on standard error, and nothing more is said.
 fn main(rt: HostRuntime) -> ExitCode {
-    match commands::perform(&rt) {
-        Ok(()) => ExitCode::SUCCESS,
-        Err(_) => ExitCode::FAILURE,
-    }
+    commands::run(&rt)
 }

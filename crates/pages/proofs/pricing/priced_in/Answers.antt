@@ -1,32 +1,10 @@
 use Rattle.std.proofs.Common.{length, vec_items, sym, ap, ◌∙◌}
-use Rattle.std.proofs.lemmas.Result.{err_from_is_err_and}
 use Rattle.problems.specs.Outlines.{outline, problem}
 use Rattle.variables.specs.Records.{values_of}
-use Rattle.wcsp.specs.Loads.{loading}
 use Rattle.jobs.specs.Standings.{Standing}
 use Rattle.pages.specs.Pages.{cost_page}
-use Rattle.pages.proofs.Pricings.{outcome_new, loading_name, full_there, page_there, title_is, given_priced}
+use Rattle.pages.proofs.Pricings.{outcome_new, loading_name, full_there, page_there, title_is}
 use Rattle.pages.proofs.pricing.priced_in.Goals as goal
-
-pub returns-in_err-upper : goal.returns-in_err-upper
-returns-in_err-upper c =
-    let p = err_from_is_err_and c.from_residual.result c.from_residual.ensures.1 in
-    let whole = outcome_new c.new-job.result _ c.args.text.now (length c.args.area.now) c.new-job.ensures in
-    rw (p.1, p.2) (sym whole ∙ c.in_err-upper.ensures.0)
-
-pub returns-in_err-setting : goal.returns-in_err-setting
-returns-in_err-setting c =
-    let p = err_from_is_err_and c.from_residual-in_err-setting.result c.from_residual-in_err-setting.ensures.1 in
-    let loaded = c.in_ok-upper.ensures in
-    let cells = length c.args.area.now in
-    let whole = outcome_new c.new-job.result _ c.args.text.now cells c.new-job.ensures in
-    let same = c.shape-shape.ensures ∙ ap (λ (x : Standing). x.outline) loaded.2.stands.standing_is in
-    rw (p.1, p.2) (given_priced (loading c.args.text.now cells) cells loaded.0 (outline c.shape-shape.result) c.args.values.now _ (sym whole ∙ loaded.1) same c.in_err-setting.ensures)
-
-pub returns-in_err-page : goal.returns-in_err-page
-returns-in_err-page c =
-    let p = err_from_is_err_and c.from_residual-in_err-page.result c.from_residual-in_err-page.ensures.1 in
-    rw (p.1, p.2) tt
 
 pub returns : goal.returns
 returns c =

@@ -1,9 +1,8 @@
-use Rattle.std.proofs.Common.{◌≡◌, ℕ, List, ◌++◌, ap, ap₂, ◌∙◌}
+use Rattle.std.proofs.Common.{◌≡◌, ℕ, List, ap, ◌∙◌}
 use Rattle.variables.specs.Records.{sizes_of, scope_of, values_of}
 use Rattle.variables.specs.Assignments.{of}
 use Rattle.costs.specs.Kinds.{sum}
 use Rattle.problems.specs.Records.{held, placed_of}
-use Rattle.pages.specs.Lines.{function_line}
 use Rattle.pages.proofs.pricing.record_line.Goals as goal
 
 pub returns : goal.returns
@@ -13,4 +12,4 @@ returns c =
     let sizes : sizes_of c.sizes.result ≡ sizes_of c.args.shape.now.sizes = ap sizes_of c.sizes.ensures in
     let cost : c.cost-cost.result ≡ held sum (sizes_of c.args.shape.now.sizes) c.args.area.now (of (values_of c.args.setting.now)) (placed_of f) =
     c.cost-cost.ensures ∙ ap (λ (l : List ℕ). held sum l c.args.area.now (of (values_of c.args.setting.now)) (placed_of f)) sizes in
-    rw (← c.in-Some.ensures) (c.in_ok-function_line.ensures ∙ ap₂ (λ (s : List ℕ) (x : ℕ). c.args.page.now.items ++ function_line c.args.k s x) scope cost)
+    rw (← c.in-Some.ensures) (rw (scope, cost) at c.function_line.ensures)

@@ -1,4 +1,4 @@
-use Rattle.std.proofs.Common.{vec_items, refl, arith}
+use Rattle.std.proofs.Common.{refl, arith}
 use Rattle.problems.specs.Outlines.{outline}
 use Rattle.variables.specs.Assignments.{of}
 use Rattle.variables.specs.Records.{values_of}
@@ -10,11 +10,11 @@ pub loop-k-preserved : goal.loop-k-preserved
 loop-k-preserved c =
     let o = outline c.args.shape.now in
     let a = of (values_of c.args.setting.now) in
-    lines_more (record_line o.sizes c.args.area.now a) (record_lines o.sizes c.args.area.now a) (λ k f fs. refl) (λ k. refl) (vec_items c.loop-k.page) (vec_items c.record_line.new.page) _ c.loop-k.k o.functions
+    lines_more (record_line o.sizes c.args.area.now a) (record_lines o.sizes c.args.area.now a) (λ k f fs. refl) (λ k. refl) c.loop-k.page.bytes.items c.record_line.new.page.bytes.items _ c.loop-k.k o.functions
     (omega arith) c.in_ok-record_line.ensures c.loop-k.invariant
 
 pub returns : goal.returns
 returns c =
     let o = outline c.args.shape.now in
     let a = of (values_of c.args.setting.now) in
-    lines_all (record_line o.sizes c.args.area.now a) (record_lines o.sizes c.args.area.now a) (λ k f fs. refl) (λ k. refl) (vec_items c.loop-k.page) _ c.loop-k.k o.functions (omega arith) c.loop-k.invariant
+    lines_all (record_line o.sizes c.args.area.now a) (record_lines o.sizes c.args.area.now a) (λ k f fs. refl) (λ k. refl) c.loop-k.page.bytes.items _ c.loop-k.k o.functions (omega arith) c.loop-k.invariant
