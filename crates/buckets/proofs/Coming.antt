@@ -1,7 +1,7 @@
 -- The messages that are still to come from the functions that wait.
 use Rattle.std.proofs.Common.{◌≡◌, ℕ, ◌+◌, ◌-◌, ◌*◌, ◌<◌, ◌≤◌, true, not, eqb, List, [], ◌∷◌, ◌++◌, map, length, get_or, sym, refl, ap, ◌∙◌, ap₂, add-one, arith}
 use Rattle.std.specs.List.{AllByRecursion}
-use Rattle.std.proofs.lemmas.List.{length-map, length-append, append_assoc, append-nil, length_push}
+use Rattle.std.proofs.lemmas.List.{length-map, length-append, append_assoc, length_push}
 use Rattle.std.proofs.ByRecursion.{All-weaker}
 use Rattle.std.proofs.lemmas.Bool.{and_parts, eqb-true}
 use Rattle.variables.specs.Lists.{known, distinct}
@@ -114,8 +114,3 @@ module _ (sizes order : List ℕ) (w p : ℕ) (rs₀ : List Placed) where
           lies = rw e (all_passed order w (λ (f : Placed). bucket_of order f.scope ≡ p + 1) [] ws c.lies);
           small = omega (arith, c.small, ap length r, length_push rs (filed p scope));
         }
-
-  pub counting_ends : (rs ws : List Placed) (n : ℕ) → Counting sizes order w p rs₀ rs ws n → length ws ≡ 0
-      → (rs ≡ rs₀ ++ map (filed p) (scopes_from order w (p + 1) (scopes_of rs₀))) × (n ≡ all_cells sizes (scopes_from order w (p + 1) (scopes_of rs₀)))
-  counting_ends rs [] n c h = (sym (append-nil rs) ∙ c.records, omega (arith, c.cells_are))
-  counting_ends rs (f ∷ fs) n c h = absurd (omega arith)

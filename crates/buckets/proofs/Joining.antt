@@ -2,7 +2,7 @@
 use Rattle.std.proofs.Common.{◌≡◌, ℕ, suc, ◌+◌, ◌≤◌, Bool, true, false, cond, ◌||◌, leb, List, [], ◌∷◌, ◌++◌, map, length, drop, sym, refl, ap, ◌∙◌, ap₂, inl, inr, arith}
 use mathlib.Core.Path.{fun_ext}
 use Rattle.std.specs.List.{AllByRecursion}
-use Rattle.std.proofs.lemmas.List.{map_push, append_assoc, append-nil, at_drop_all}
+use Rattle.std.proofs.lemmas.List.{map_push, append_assoc}
 use Rattle.std.proofs.ByRecursion.{All-push}
 use Rattle.std.proofs.lemmas.Bool.{cond_both, cases_Bool, leb-true}
 use Rattle.variables.specs.Lists.{has}
@@ -105,10 +105,3 @@ module _ (order : List ℕ) (w : ℕ) (fs : List Placed) (k : ℕ) (f : Placed) 
       ap (λ (l : List Placed). taken order w l (drop (k + 1) fs)) e ∙ sym (taken_turn false t) ∙ before,
       ap₂ (λ (r l : List Placed). r ++ passed order w l (drop (k + 1) fs)) d e ∙ append_assoc rest (f ∷ []) (passed order w ms (drop (k + 1) fs)) ∙ ap (λ (l : List Placed). rest ++ l) (sym (passed_turn false t)) ∙ behind,
     )
-
-pub all_waited : (order : List ℕ) (w : ℕ) (fs : List Placed) (k : ℕ) (ms rest all_taken all_passed : List Placed) → length fs ≤ k → taken order w ms (drop k fs) ≡ all_taken → rest ++ passed order w ms (drop k fs) ≡ all_passed
-    → (ms ≡ all_taken) × (rest ≡ all_passed)
-all_waited order w fs k ms rest all_taken all_passed h before behind = (
-  sym (at_drop_all (taken order w ms) fs k h) ∙ before,
-  sym (append-nil rest) ∙ ap (λ (l : List Placed). rest ++ l) (sym (at_drop_all (passed order w ms) fs k h)) ∙ behind,
-)

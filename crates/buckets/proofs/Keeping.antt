@@ -1,7 +1,7 @@
 -- A shape's functions and order meet what making their messages takes, and what is made is what the source keeps.
-use Rattle.std.proofs.Common.{◌≡◌, ℕ, ◌+◌, ◌-◌, ◌≤◌, Bool, true, false, ◌&&◌, leb, List, ◌++◌, map, length, sym, ap, ◌∙◌, subst, ap₂, arith}
+use Rattle.std.proofs.Common.{◌≡◌, ℕ, ◌+◌, ◌-◌, ◌≤◌, Bool, true, ◌&&◌, leb, List, ◌++◌, map, length, sym, ap, ◌∙◌, subst, ap₂, arith}
 use Rattle.std.proofs.ByRecursion.{All-weaker}
-use Rattle.std.proofs.lemmas.Bool.{and_parts, leb-true, cond-true, cond-false}
+use Rattle.std.proofs.lemmas.Bool.{and_parts, leb-true, cond-true}
 use Rattle.costs.specs.Structures.{Structure}
 use Rattle.variables.specs.Assignments.{cells}
 use Rattle.problems.specs.Problems.{Function}
@@ -17,7 +17,7 @@ use Rattle.buckets.specs.declared.plain.Plan.{Plan}
 use Rattle.buckets.specs.Going.{Able, Spacious, Gone}
 use Rattle.buckets.specs.Made.{bucket_made, scopes_made, all_cells, placed_made}
 use Rattle.buckets.specs.Processed.{scopes_of}
-use Rattle.buckets.specs.Sources.{short, mini_suits, mini_room}
+use Rattle.buckets.specs.Sources.{mini_suits, mini_room}
 use Rattle.buckets.specs.Tables.{Below}
 use Rattle.buckets.specs.Laying.{laid_below}
 use Rattle.buckets.proofs.Making.{below_same}
@@ -65,18 +65,6 @@ module _ (shape : Shape) (plan : Plan) (fs : List Placed) (sizes : plan.sizes �
         below = functions_below shape w narrow at behind;
         room = omega (arith, there, cond-true (mini_suits w (frame (outline shape))) (all_cells (outline shape).sizes (scopes_made (outline shape).order w (scopes_of (outline shape).functions) (length (outline shape).order))) 0 suited);
       })
-
-  pub room_counted : (w n : ℕ) (t : Bool) → t ≡ ((leb 1 w && leb w 6) && short w (scopes_of fs)) → t ≡ true → n ≡ all_cells (sizes_of plan.sizes) (scopes_made (order_of plan.order) w (scopes_of fs) (length (order_of plan.order)))
-      → n ≡ mini_room w (frame (outline shape))
-  room_counted w n t test yes-it is =
-      as_shaped (λ s x l. n ≡ all_cells s (scopes_made x w (scopes_of l) (length x))) is
-      ∙ sym (cond-true (mini_suits w (frame (outline shape))) (all_cells (outline shape).sizes (scopes_made (outline shape).order w (scopes_of (outline shape).functions) (length (outline shape).order))) 0
-      (ap (λ (l : List Placed). (leb 1 w && leb w 6) && short w (scopes_of l)) (sym same) ∙ sym test ∙ yes-it))
-
-pub no_room : (shape : Shape) (fs : List Placed) → fs ≡ (outline shape).functions → (w : ℕ) (t : Bool) → t ≡ ((leb 1 w && leb w 6) && short w (scopes_of fs)) → t ≡ false → 0 ≡ mini_room w (frame (outline shape))
-no_room shape fs same w t test not-it =
-    sym (cond-false (mini_suits w (frame (outline shape))) (all_cells (outline shape).sizes (scopes_made (outline shape).order w (scopes_of (outline shape).functions) (length (outline shape).order))) 0
-    (ap (λ (l : List Placed). (leb 1 w && leb w 6) && short w (scopes_of l)) (sym same) ∙ sym test ∙ not-it))
 
 -- what is made, said of the outline
 module _ {C : Type 0} (K : Structure C) (shape : Shape) (w : ℕ) (narrow : w ≤ 6) (area area' : List C) (at : ℕ) (behind : (outline shape).used ≤ at) (rs : List Placed) (reach : List ℕ) (end : ℕ)

@@ -1,5 +1,5 @@
 -- The least of several costs, as a loop finds it.
-use Rattle.std.proofs.Common.{◌≡◌, ℕ, suc, ◌+◌, ◌-◌, ◌<◌, ◌≤◌, List, [], ◌∷◌, map, sym, refl, ap, ◌∙◌, ap₂, arith}
+use Rattle.std.proofs.Common.{◌≡◌, ℕ, suc, ◌+◌, ◌-◌, ◌<◌, List, [], ◌∷◌, map, sym, refl, ap, ◌∙◌, ap₂, arith}
 use Rattle.costs.specs.Structures.{Structure, Lawful}
 use Rattle.floors.specs.Leasts.{lesser, least_of}
 use Rattle.floors.specs.Settings.{upto}
@@ -24,6 +24,3 @@ module _ {C : Type 0} {K : Structure C} (L : Lawful K) where
         ap₂ (λ (c : C) (from : ℕ). least_of K (c ∷ map F (upto from (size - (v + 1))))) e one
         ∙ least_on acc (F v) (map F (upto (suc v) (size - (v + 1))))
         ∙ sym (ap (λ m. least_of K (acc ∷ map F (upto v m))) n) ∙ before
-
-    pub least_all : (acc : C) (v : ℕ) (whole : C) → size ≤ v → least_of K (acc ∷ map F (upto v (size - v))) ≡ whole → acc ≡ whole
-    least_all acc v whole l before = let n : size - v ≡ 0 = omega arith in sym (ap (λ m. least_of K (acc ∷ map F (upto v m))) n) ∙ before

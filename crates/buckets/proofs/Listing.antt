@@ -1,6 +1,6 @@
 -- Lists of records, and loops over them.
 use Rattle.std.proofs.Common.{◌≡◌, ℕ, zero, suc, ◌+◌, ◌-◌, ◌<◌, ◌≤◌, min, Bool, true, false, cond, ◌&&◌, ◌||◌, eqb, leb, List, [], ◌∷◌, ◌++◌, map, length, get_or, take, drop, set, Some, sym, refl, ap, ◌∙◌, inl, inr, add-one, arith}
-use Rattle.std.proofs.lemmas.List.{drop_all, take_all, length-drop, drop-map, append_assoc, append-nil, drop_more, at_drop_more, at_drop_all, get_or-map, get_or-set_same, get_or-set_other, length-set}
+use Rattle.std.proofs.lemmas.List.{drop_all, take_all, length-drop, drop-map, append_assoc, drop_more, at_drop_more, at_drop_all, get_or-map, get_or-set_same, get_or-set_other, length-set}
 use Rattle.std.proofs.lemmas.List.Recursion.{is_count_by}
 use Rattle.std.proofs.lemmas.Bool.{cases_Bool, cases_eq, cases_lt, eq-eqb, ne_eqb}
 use Rattle.variables.specs.Lists.{has}
@@ -92,23 +92,8 @@ module _ (vs : List ℕ) (i : ℕ) (h : i < length vs) (slots before : List Bool
     λ v l. ap (λ (s : List Bool). get_or s v false || has (drop (i + 1) vs) v) (is ∙ ap (λ x. set slots x true) e) ∙ marks_at (omega arith) v l,
   )
 
-  pub marks_not : (after : List Bool) → 32 ≤ get_or vs i 0 → after ≡ slots
-      → (length after ≡ 32) × ((v : ℕ) → v < 32 → (get_or after v false || has (drop (i + 1) vs) v) ≡ (get_or before v false || has vs v))
-  marks_not after high is = (
-    ap length is ∙ long,
-    λ v l.
-        let step = marks_step v in
-        let t : eqb (get_or vs i 0) v ≡ false = ne_eqb (get_or vs i 0) v (λ e. omega arith) in
-        let old = inv v l in
-        let same = ap (λ (s : List Bool). get_or s v false) is in
-        grind arith,
-  )
-
 pub marked : (vs : List ℕ) (i : ℕ) (slots before : List Bool) → length vs ≤ i → (v : ℕ) → (get_or slots v false || has (drop i vs) v) ≡ (get_or before v false || has vs v) → get_or slots v false ≡ (get_or before v false || has vs v)
 marked vs i slots before h v inv = let step = at_drop_all (λ l. has l v) vs i h in grind arith
-
-pub kept_whole : {A : Type 0} (p : A → Bool) (xs : List A) (i : ℕ) (so_far whole : List A) → length xs ≤ i → so_far ++ kept p (drop i xs) ≡ whole → so_far ≡ whole
-kept_whole p xs i so_far whole h before = sym (append-nil so_far) ∙ sym (ap (λ l. so_far ++ l) (at_drop_all (kept p) xs i h)) ∙ before
 
 pub turned : {A : Type 0} (p : A → Bool) (xs : List A) (i : ℕ) (x : A) (so_far whole : List A) → drop i xs ≡ x ∷ drop (i + 1) xs → so_far ++ kept p (drop i xs) ≡ whole → p x ≡ true
     → so_far ++ (x ∷ kept p (drop (i + 1) xs)) ≡ whole
@@ -130,7 +115,3 @@ nth_take (suc n) (x ∷ xs) (suc k) h = nth_take n xs k (omega arith)
 pub take_past : {A : Type 0} (xs ys : List A) (m : ℕ) → take (length xs + m) (xs ++ ys) ≡ xs ++ take m ys
 take_past [] ys m = let z : 0 + m ≡ m = omega arith in rw z
 take_past {A} (x ∷ xs) ys m = let z : suc (length xs) + m ≡ suc (length xs + m) = omega arith in rw z (ap (λ (l : List A). x ∷ l) (take_past xs ys m))
-
--- whether no scope is longer, scope by scope
-pub short_more : (w : ℕ) (fs : List Placed) (i : ℕ) (f : Placed) → drop i fs ≡ f ∷ drop (i + 1) fs → short w (scopes_of (drop i fs)) ≡ (leb (length f.scope) w && short w (scopes_of (drop (i + 1) fs)))
-short_more w fs i f e = ap (λ (l : List Placed). short w (scopes_of l)) e

@@ -1,5 +1,5 @@
 -- The variables of plain records are below 32.
-use Rattle.std.proofs.Common.{◌≡◌, ℕ, zero, suc, ◌<◌, ◌≤◌, true, eqb, ltb, List, [], ◌∷◌, length, get_or, inl, inr, arith}
+use Rattle.std.proofs.Common.{◌≡◌, ℕ, zero, suc, ◌<◌, true, eqb, ltb, List, [], ◌∷◌, length, get_or, inl, inr, arith}
 use Rattle.std.proofs.lemmas.List.{get_or_past, get_or-take, length-take}
 use Rattle.std.proofs.lemmas.Bool.{cases_lt, and_parts, ltb-true}
 use Rattle.variables.specs.declared.plain.Sizes.{Sizes}
@@ -26,12 +26,6 @@ pub sized_low : (s : Sizes) (v : ℕ) → 0 < get_or (sizes_of s) v 0 → v < 32
 sized_low s v h = elim (cases_lt v 32) [
   | inl l ↦ l
   | inr l ↦ absurd (omega (arith, get_or_past (sizes_of s) v 0 (omega (arith, length-take s.len s.sizes))))
-]
-
-pub size_most : (s : Sizes) (v : ℕ) → get_or (sizes_of s) v 0 ≤ 16
-size_most s v = elim (cases_lt v s.len) [
-  | inl l ↦ omega (arith, get_or-take s.len s.sizes v 0 l, s.small v)
-  | inr l ↦ omega (arith, get_or_past (sizes_of s) v 0 (omega (arith, length-take s.len s.sizes)))
 ]
 
 known_at : (n : ℕ) (xs : List ℕ) (p : ℕ) → known n xs ≡ true → p < length xs → get_or xs p 0 < n

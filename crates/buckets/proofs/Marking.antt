@@ -1,6 +1,6 @@
 -- Marked variables are those that functions name.
-use Rattle.std.proofs.Common.{◌≡◌, ℕ, ◌+◌, ◌<◌, ◌≤◌, Bool, true, false, cond, not, ◌&&◌, ◌||◌, eqb, leb, List, [], ◌∷◌, ◌++◌, length, get_or, drop, set, Some, None, Ok, Err, Result, sym, refl, ap, ◌∙◌, ap₂, inl, inr, arith}
-use Rattle.std.proofs.lemmas.List.{length-append, get_or-set_same, get_or-set_other, append_assoc, at_drop_all}
+use Rattle.std.proofs.Common.{◌≡◌, ℕ, ◌+◌, ◌<◌, Bool, true, false, cond, not, ◌&&◌, ◌||◌, eqb, leb, List, [], ◌∷◌, ◌++◌, length, get_or, drop, set, Some, None, Ok, Err, Result, sym, refl, ap, ◌∙◌, ap₂, inl, inr, arith}
+use Rattle.std.proofs.lemmas.List.{length-append, get_or-set_same, get_or-set_other, append_assoc}
 use Rattle.std.proofs.lemmas.Bool.{cases_eq, eq-eqb, ne_eqb, not-true}
 use Rattle.std.proofs.lemmas.Bool.Decides.{nat_tests}
 use Rattle.variables.specs.Lists.{has}
@@ -37,9 +37,6 @@ named_more fs i f scope v before after whole s next inv e =
     let step : names (drop i fs) v ≡ (has f.scope v || names (drop (i + 1) fs) v) = ap (λ (l : List Placed). names l v) next in
     let same = ap (λ x. has x v) s in
     grind arith
-
-pub named_all : (fs : List Placed) (i : ℕ) (v : ℕ) (named whole : Bool) → length fs ≤ i → (named || names (drop i fs) v) ≡ whole → named ≡ whole
-named_all fs i v named whole h inv = let end = at_drop_all (λ (l : List Placed). names l v) fs i h in grind arith
 
 -- the marked variables but one, along the order
 pub others_kept : (order : List ℕ) → ((v : ℕ) → has order v ≡ true → v < 32) → (p : ℕ → Bool) (named less : List Bool) (v : ℕ) → length named ≡ 32 → ((u : ℕ) → u < 32 → get_or named u false ≡ p u)

@@ -1,5 +1,5 @@
 -- All buckets, from the last down.
-use Rattle.std.proofs.Common.{◌≡◌, ℕ, suc, ◌+◌, ◌-◌, ◌*◌, ◌<◌, ◌≤◌, true, eqb, ltb, leb, List, [], ◌∷◌, ◌++◌, map, length, get_or, take, drop, set, sym, refl, ap, ◌∙◌, subst, ap₂, inl, inr, suc-mul, arith}
+use Rattle.std.proofs.Common.{◌≡◌, ℕ, suc, ◌+◌, ◌-◌, ◌*◌, ◌<◌, ◌≤◌, true, eqb, ltb, leb, List, [], ◌∷◌, ◌++◌, map, length, get_or, take, drop, set, sym, refl, ap, ◌∙◌, ap₂, inl, inr, suc-mul, arith}
 use Rattle.std.specs.List.{AllByRecursion}
 use Rattle.std.proofs.lemmas.List.{length-map, length-append, append_assoc, append-nil, map-append, map-id, take-take, drop-drop, get_or-set_same, get_or-set_other}
 use Rattle.std.proofs.ByRecursion.{All-append, All-weaker}
@@ -115,15 +115,6 @@ pub record Tally (sizes order : List ℕ) (w : ℕ) (fs : List Placed) (i : ℕ)
   pub small : cells + i * 402653184 ≤ length order * 402653184
 
 module _ (sizes order : List ℕ) (w : ℕ) (fs : List Placed) where
-  pub tally_begins : (i : ℕ) → i ≡ length order → Tally sizes order w fs i fs 0
-  tally_begins i e =
-      let z : length order - i ≡ 0 = omega arith in
-      record {
-        scopes = sym (append-nil (scopes_of fs)) ∙ ap (λ k. scopes_of fs ++ scopes_made order w (scopes_of fs) k) (sym z);
-        counted = ap (λ k. all_cells sizes (scopes_made order w (scopes_of fs) k)) (sym z);
-        small = rw e (omega arith);
-      }
-
   pub tally_goes : Able sizes order w fs → (i : ℕ) (rs rs' : List Placed) (cells more cells' : ℕ) → 0 < i → i ≤ length order → Tally sizes order w fs i rs cells
       → rs' ≡ rs ++ map (filed (i - 1)) (scopes_from order w (i - 1 + 1) (scopes_of rs)) → more ≡ all_cells sizes (scopes_from order w (i - 1 + 1) (scopes_of rs)) → more ≤ 402653184 → cells' ≡ cells + more
       → Tally sizes order w fs (i - 1) rs' cells'
@@ -140,9 +131,6 @@ module _ (sizes order : List ℕ) (w : ℕ) (fs : List Placed) where
         counted = omega (arith, c, t.counted, m, ap (all_cells sizes) on, cells_append sizes made new);
         small = omega (arith, t.small, c, low, one);
       }
-
-  pub tally_ends : (i : ℕ) (rs : List Placed) (cells : ℕ) → i ≡ 0 → Tally sizes order w fs i rs cells → cells ≡ all_cells sizes (scopes_made order w (scopes_of fs) (length order))
-  tally_ends i rs cells e t = let z : length order - i ≡ length order = omega arith in t.counted ∙ ap (λ k. all_cells sizes (scopes_made order w (scopes_of fs) k)) z
 
 -- making
 
@@ -246,10 +234,3 @@ module _ {C : Type 0} (K : Structure C) (sizes order : List ℕ) (w : ℕ) (fs :
         where
           behind_on : drop end' area ≡ drop end' area₀
           behind_on = rw done.ends (sym (drop-drop (all_cells sizes (scopes_from order w (i - 1 + 1) (scopes_of rs))) end area) ∙ ap (drop (all_cells sizes (scopes_from order w (i - 1 + 1) (scopes_of rs)))) gone.behind ∙ drop-drop (all_cells sizes (scopes_from order w (i - 1 + 1) (scopes_of rs))) end area₀)
-
-  pub gone_ends : (i : ℕ) (rs : List Placed) (reach : List ℕ) (area : List C) (end : ℕ) → i ≡ 0 → Gone K sizes order w fs area₀ at i rs reach area end
-      → Gone K sizes order w fs area₀ at 0 rs reach area (at + all_cells sizes (Scopes N))
-  gone_ends i rs reach area end e gone =
-      let z : N - i ≡ N = omega arith in
-      let last : end ≡ at + all_cells sizes (Scopes N) = gone.ends ∙ ap (λ k. at + all_cells sizes (Scopes k)) z in
-      subst (λ x. Gone K sizes order w fs area₀ at 0 rs reach area x) last (subst (λ j. Gone K sizes order w fs area₀ at j rs reach area end) e gone)

@@ -1,7 +1,7 @@
 -- What is written into a message's table.
 use Rattle.std.proofs.Common.{◌≡◌, ℕ, zero, suc, ◌+◌, ◌<◌, ◌≤◌, true, List, [], ◌∷◌, ◌++◌, map, length, get_or, take, drop, set, sym, refl, ap, ◌∙◌, ap₂, arith}
 use mathlib.Core.Path.{fun_ext}
-use Rattle.std.proofs.lemmas.List.{append_assoc, length-append, length-take-le, set_at, drop_more, take_more, take-append-drop, take_at}
+use Rattle.std.proofs.lemmas.List.{append_assoc, length-append, length-take-le, set_at, drop_more, take_more, take_at}
 use Rattle.std.proofs.lemmas.Bool.{or_left, or_right}
 use Rattle.std.proofs.lemmas.Bool.Decides.{nat_tests}
 use Rattle.costs.specs.Structures.{Structure, total}
@@ -34,9 +34,6 @@ written_more {C} area table s k x room l e =
     ap (λ (l : List C). set l (s + k) x) before ∙ set_at front (get_or area (s + k) x) (drop (s + k + 1) area) x (s + k) long
     ∙ append_assoc (take s area) (take k table) (x ∷ drop (s + k + 1) area)
     ∙ ap (λ (r : List C). take s area ++ r) (sym (append_assoc (take k table) (x ∷ []) (drop (s + k + 1) area)) ∙ ap₂ (λ (t : List C) (i : ℕ). t ++ drop i area) (sym more) end)
-
-pub written_none : {C : Type 0} (area table : List C) (s : ℕ) → area ≡ take s area ++ (take 0 table ++ drop (s + 0) area)
-written_none area table s = let z : s + 0 ≡ s = omega arith in rw z (sym (take-append-drop s area))
 
 pub written_front : {C : Type 0} (area now : List C) (rest : List C) (s : ℕ) → s ≤ length area → now ≡ take s area ++ rest → take s now ≡ take s area
 written_front area now rest s l e = ap (take s) e ∙ take_at (take s area) rest s (length-take-le s area l)

@@ -9,9 +9,6 @@ folded K acc [] = acc
 folded K acc (c ∷ cs) = folded K (K.combined acc c) cs
 
 module _ {C : Type 0} (K : Structure C) (L : Lawful K) where
-  -- what is combined does not tell a content from the cost that it stands for
-  pub combined_unit : (a b : C) → K.combined (K.combined K.neutral a) b ≡ K.combined a b
-  combined_unit a b = L.associative K.neutral a b ∙ L.unit (K.combined a b) ∙ L.combined_stands a b
 
   folded_on : (a b : C) (cs : List C) → folded K (K.combined a b) cs ≡ K.combined a (K.combined b (total K cs))
   folded_on a b [] =

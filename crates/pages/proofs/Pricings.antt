@@ -63,10 +63,3 @@ module _ (d : Document) (o : Outline) (area s : List ℕ) (same : o ≡ outlined
 pub title_is : (o : Option (Bor (List ℕ))) (r : Bor (List ℕ)) (x : List ℕ) → option_map (λ (x : Bor (List ℕ)). x.now) o ≡ Some x → (unwrap_or o r).now ≡ x
 title_is None r x h = grind arith
 title_is (Some y) r x h = cc
-
--- values that are refused for the records' sizes are so for the text's
-pub given_priced : (whole : Result Document Fault) (cells : ℕ) (d : Document) (o : Outline) (s : List ℕ) (e : Failure) → whole ≡ Ok d → o ≡ outlined d → Given o.sizes s (Err e) → Priced whole cells s (Err e)
-given_priced whole cells d o s Memory is same h = tt
-given_priced whole cells d o s (Refused f) is same h = absurd h
-given_priced whole cells d o s (Values n) is same h = let z = ap (λ (x : Outline). x.sizes) same ∙ entered_sizes (opened d.sizes) d.entries in (d, is, rw z at h.0, rw z at h.1)
-given_priced whole cells d o s (Value v) is same h = let z = ap (λ (x : Outline). x.sizes) same ∙ entered_sizes (opened d.sizes) d.entries in (d, is, rw z at h)

@@ -22,12 +22,6 @@ module _ {A B : Type 0} (f : A → B) (n : ℕ) (xs : List A) (room : n ≤ leng
   pub used_length : length (map f (take n xs)) ≡ n
   used_length = length-map (take n xs) f ∙ length-take-le n xs room
 
-  pub used_nth : (k : ℕ) (d : A) → k < n → nth (map f (take n xs)) k ≡ Some (f (get_or xs k d))
-  used_nth k d h = nth_map f (take n xs) k d (omega (arith, length-take-le n xs room)) ∙ ap (λ x. Some (f x)) (get_or-take n xs k d h)
-
-pub used_push : {A B : Type 0} (f : A → B) (n : ℕ) (xs : List A) (x : A) → n < length xs → map f (take (n + 1) (set xs n x)) ≡ map f (take n xs) ++ f x ∷ []
-used_push f n xs x h = ap (map f) (take_more_set xs n x h) ∙ map_push f (take n xs) x
-
 pub laid_push : (sizes : List ℕ) (from to : ℕ) (fs : List Placed) (f : Placed) → laid_from sizes from fs to ≡ true → f.start ≡ to → laid_from sizes from (fs ++ f ∷ []) (to + cells sizes f.scope) ≡ true
 laid_push sizes from to [] f h e = grind (arith, nat_tests)
 laid_push sizes from to (g ∷ fs) f h e = let ih = laid_push sizes (from + cells sizes g.scope) to fs f in grind (arith, nat_tests)
@@ -45,14 +39,6 @@ pub nth_some : {A : Type 0} (xs : List A) (k : ℕ) (y : A) → nth xs k ≡ Som
 nth_some [] k y h = grind arith
 nth_some (x ∷ xs) zero y h = omega arith
 nth_some (x ∷ xs) (suc k) y h = omega (arith, nth_some xs k y h)
-
--- an item of the slots in use, seen through two maps
-pub used_item : {A B D : Type 0} (h : B → D) (f : A → B) (n : ℕ) (xs : List A) → n ≤ length xs → (k : ℕ) → k < n → (d : A) (e : D)
-    → get_or (map h (map f (take n xs))) k e ≡ h (f (get_or xs k d))
-used_item h f n xs room k l d e =
-    let long = used_length f n xs room in
-    get_or-map h (map f (take n xs)) k (f d) e (omega arith)
-    ∙ ap h (get_or-map f (take n xs) k d (f d) (omega (arith, length-take-le n xs room)) ∙ ap f (get_or-take n xs k d l))
 
 -- an item of a slice that is seen through a map
 pub mapped_length : {A B : Type 0} (f : A → B) (xs : List A) (ys : List B) → map f xs ≡ ys → length ys ≡ length xs

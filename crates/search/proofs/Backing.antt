@@ -1,7 +1,6 @@
 -- Backing up, turn by turn.
-use Rattle.std.proofs.Common.{◌≡◌, ℕ, suc, ◌+◌, ◌≤◌, min, true, false, ◌&&◌, ltb, leb, List, [], ◌∷◌, reverse, length, Option, sym, refl, ap, ◌∙◌, ap₂, arith}
+use Rattle.std.proofs.Common.{◌≡◌, ℕ, suc, ◌+◌, ◌≤◌, min, true, List, [], ◌∷◌, reverse, length, Option, sym, refl, ap, ◌∙◌, ap₂, arith}
 use Rattle.std.proofs.lemmas.Bool.{eq-eqb, ne_eqb}
-use Rattle.std.proofs.lemmas.Bool.Decides.{nat_tests}
 use Rattle.variables.specs.declared.plain.Order.{Order}
 use Rattle.variables.specs.declared.plain.Sizes.{Sizes}
 use Rattle.variables.specs.declared.plain.Prefix.{Prefix}
@@ -9,7 +8,7 @@ use Rattle.variables.specs.Records.{order_of, sizes_of, prefix_of, Shorter}
 use Rattle.search.specs.declared.plain.Place.{Place}
 use Rattle.search.specs.Searches.{size_at, fit, settled}
 use Rattle.search.specs.Places.{spot_of, Backs, Settles}
-use Rattle.search.proofs.Spots.{path_long, path_shorter, none_left, size_small, fit_parts}
+use Rattle.search.proofs.Spots.{path_long, path_shorter, size_small, fit_parts}
 
 -- a value that is not the last stays next
 pub settled_here : (sizes order path : List ℕ) (next : ℕ) (best : Option (List ℕ)) → (next ≡ size_at sizes order (length path) → ⊥)
@@ -59,14 +58,6 @@ module _ (o : Order) (s : Sizes) (b : Prefix) (first : ℕ) (p : Prefix) (next :
       now.leads best
       ∙ settled_here (sizes_of s) (order_of o) (reverse (prefix_of o p)) next best (λ e. more (e ∙ ap (size_at (sizes_of s) (order_of o)) (path_long o p now.low)))
 
-  pub settles_all : false ≡ (ltb 0 p.len && leb p.len (length (order_of o))) → Settles o s b first p next
-  settles_all none usable low best =
-      let now = so_far usable low in
-      let le = now.low in
-      let zero : p.len ≡ 0 = grind (arith, nat_tests) in
-      let empty : reverse (prefix_of o p) ≡ [] = none_left _ (path_long o p now.low ∙ zero) in
-      now.leads best ∙ ap (λ xs. settled (sizes_of s) (order_of o) xs next best) empty ∙ ap (λ xs. record { path = xs; next = next; incumbent = best }) (sym empty)
-
 -- the last value given up, and then backed up
 pub backs : (o : Order) (s : Sizes) (b : Place) (a p : Prefix) (value first next : ℕ) → Shorter o b.prefix a value → first ≡ min (value + 1) 255 → Settles o s a first p next
     → Backs o s b (record { prefix = p; next = next; incumbent = b.incumbent })
@@ -81,10 +72,3 @@ backs o s b a p value first next shorter e settles last path is usable low =
     let exact : first ≡ suc last = omega (arith, parts.0) in
     let best = (spot_of o b).incumbent in
     sym (ap₂ (λ xs n. settled sizes order xs n best) same-path (sym exact) ∙ settles (ap (fit sizes order) (sym same-path) ∙ parts.1) (omega (arith, shorter.len)) best)
-
--- a prefix without a last value
-pub backs_none : (o : Order) (s : Sizes) (b a : Place) → false ≡ (ltb 0 b.prefix.len && leb b.prefix.len (length (order_of o))) → Backs o s b a
-backs_none o s b a none last path is usable low =
-    let zero : b.prefix.len ≡ 0 = grind (arith, nat_tests) in
-    let long = ap length is in
-    absurd (omega (arith, path_long o b.prefix low))

@@ -19,9 +19,6 @@ module _ {C : Type 0} (K : Structure C) (p : Problem C) (floor : List ℕ → C)
   ran_more (suc j) k s = let ih = ran_more j k (visited K p floor s) in grind (arith, suc-add j k, ran_ended k s)
 
   module _ (limit : C) where
-    pub reached_start : Reached K p floor limit 0 0 (started limit)
-    reached_start = refl
-
     -- a further budget leads on from what has been reached
     pub reached_more : (budgets visits budget more : ℕ) (s after : Search C) → Reached K p floor limit budgets visits s
         → ran K p floor budget s ≡ record { visits = more; search = after } → Reached K p floor limit (budgets + budget) (visits + more) after

@@ -1,7 +1,7 @@
 -- What a visit leads to, by what the prefix that is tried costs.
-use Rattle.std.proofs.Common.{◌≡◌, ℕ, suc, true, false, cond, eqb, ltb, List, ◌∷◌, map, reverse, length, Some, Option, sym, refl, ap, ◌∙◌, subst, arith}
+use Rattle.std.proofs.Common.{◌≡◌, ℕ, suc, true, false, cond, eqb, List, ◌∷◌, map, reverse, length, Some, Option, sym, refl, ap, ◌∙◌, subst, arith}
 use Rattle.std.proofs.lemmas.List.{take_all}
-use Rattle.std.proofs.lemmas.Bool.{cond_both, cond-true, cond-false, eq-eqb, ne_eqb, ltb-false}
+use Rattle.std.proofs.lemmas.Bool.{cond_both, cond-true, cond-false, eq-eqb, ne_eqb}
 use Rattle.costs.specs.Structures.{Structure, cheaper, total}
 use Rattle.variables.specs.declared.plain.Prefix.{Prefix}
 use Rattle.problems.specs.declared.shape.Shape.{Shape}
@@ -15,7 +15,7 @@ use Rattle.search.specs.declared.plain.Place.{Place}
 use Rattle.search.specs.declared.plain.Search.{Search as Bounded}
 use Rattle.search.specs.Searches.{Spot, Search, ended, steady, settled, path_cost, visited}
 use Rattle.search.specs.Places.{spot_of, search_of, Backs, noted}
-use Rattle.search.proofs.Spots.{path_length, path_longer}
+use Rattle.search.proofs.Spots.{path_longer}
 use Rattle.search.proofs.Costs.{full_cost}
 use Rattle.search.proofs.Visits.{Ready, ready, tried_is, tried_length, tried_low, tried_fit, tried_fits, deeper_steady, backed_steady}
 
@@ -38,13 +38,6 @@ Steady sh a = steady (sizes_of sh.sizes) (order_of sh.order) (spot_of sh.order a
 
 abbrev Goes : Shape → Place → Type 0
 Goes sh a = ended (sizes_of sh.sizes) (order_of sh.order) (spot_of sh.order a) ≡ false
-
--- a steady search has a variable left
-pub not_full : (sh : Shape) (b : Place) → false ≡ ltb b.prefix.len (length (order_of sh.order)) → Steady sh b → Goes sh b → ⊥
-not_full sh b none st goes =
-    let now = ready (sizes_of sh.sizes) (order_of sh.order) (spot_of sh.order b) st goes in
-    let full = ltb-false b.prefix.len (length (order_of sh.order)) (sym none) in
-    omega (arith, path_length sh.order b.prefix, now.deep)
 
 module _ (sh : Shape) (b : Place) (tried : Prefix) (longer : Longer sh.order b.prefix tried b.next) (st : Steady sh b) (goes : Goes sh b) where
   pub now : Ready (sizes_of sh.sizes) (order_of sh.order) (spot_of sh.order b)

@@ -1,15 +1,13 @@
 -- A place's path: how long it is, and one value more or less.
-use Rattle.std.proofs.Common.{◌≡◌, ℕ, ◌<◌, ◌≤◌, min, true, false, eqb, ltb, List, [], ◌∷◌, reverse, length, get_or, take, sym, refl, ap, ◌∙◌, inl, inr, arith}
+use Rattle.std.proofs.Common.{◌≡◌, ℕ, ◌<◌, ◌≤◌, min, true, ltb, List, [], ◌∷◌, reverse, length, get_or, take, refl, ap, ◌∙◌, inl, inr, arith}
 use Rattle.std.proofs.lemmas.List.{length-map, length-take, length-reverse, reverse-append, get_or_past, get_or-take}
-use Rattle.std.proofs.lemmas.Bool.{cases_lt, and_parts, ltb-true, eq-eqb, ne_eqb}
+use Rattle.std.proofs.lemmas.Bool.{cases_lt, and_parts, ltb-true}
 use Rattle.variables.specs.declared.plain.Order.{Order}
 use Rattle.variables.specs.declared.plain.Sizes.{Sizes}
 use Rattle.variables.specs.declared.plain.Prefix.{Prefix}
 use Rattle.variables.specs.Assignments.{of}
 use Rattle.variables.specs.Records.{order_of, sizes_of, values_of, prefix_of, Longer, Shorter}
-use Rattle.search.specs.declared.plain.Place.{Place}
-use Rattle.search.specs.Searches.{size_at, fit, ended}
-use Rattle.search.specs.Places.{spot_of}
+use Rattle.search.specs.Searches.{size_at, fit}
 
 pub path_length : (o : Order) (p : Prefix) → length (reverse (prefix_of o p)) ≡ min p.len (length (order_of o))
 path_length o p =
@@ -42,16 +40,3 @@ pub fit_parts : (sizes order : List ℕ) (v : ℕ) (path : List ℕ) → fit siz
 fit_parts sizes order v path h =
     let both = and_parts (ltb v (size_at sizes order (length path))) (fit sizes order path) h in
     (ltb-true v (size_at sizes order (length path)) both.0, both.1)
-
--- whether a search has ended, by the number of values given and the first variable's domain size
-pub ended_then : (o : Order) (sizes : List ℕ) (b : Place) (given size : ℕ) → given ≡ min b.prefix.len (length (order_of o)) → given ≡ 0 → size ≡ size_at sizes (order_of o) 0
-    → eqb b.next size ≡ ended sizes (order_of o) (spot_of o b)
-ended_then o sizes b given size e none same =
-    let empty : eqb (length (reverse (prefix_of o b.prefix))) 0 ≡ true = eq-eqb _ 0 (path_length o b.prefix ∙ sym e ∙ none) in
-    rw (same, empty)
-
-pub ended_else : (o : Order) (sizes : List ℕ) (b : Place) (given : ℕ) → given ≡ min b.prefix.len (length (order_of o)) → (given ≡ 0 → ⊥)
-    → eqb given 0 ≡ ended sizes (order_of o) (spot_of o b)
-ended_else o sizes b given e some =
-    let more : eqb (length (reverse (prefix_of o b.prefix))) 0 ≡ false = ne_eqb _ 0 (λ z. some (e ∙ sym (path_length o b.prefix) ∙ z)) in
-    rw more (ne_eqb given 0 some)

@@ -1,5 +1,5 @@
 -- A search stays steady, whatever the floors are.
-use Rattle.std.proofs.Common.{◌≡◌, ℕ, zero, suc, ◌<◌, ◌≤◌, Bool, true, false, ◌&&◌, ◌||◌, eqb, ltb, List, [], ◌∷◌, reverse, length, Some, Option, refl, subst, inl, inr, arith}
+use Rattle.std.proofs.Common.{◌≡◌, ℕ, zero, suc, ◌<◌, ◌≤◌, Bool, true, false, ◌&&◌, ◌||◌, eqb, ltb, List, [], ◌∷◌, reverse, length, Some, Option, refl, inl, inr, arith}
 use Rattle.std.proofs.lemmas.Bool.{cond_both, cases_Bool}
 use Rattle.std.proofs.lemmas.List.{length-reverse}
 use Rattle.std.proofs.lemmas.Bool.Decides.{nat_tests}
@@ -7,8 +7,7 @@ use Rattle.costs.specs.Structures.{Structure, cheaper}
 use Rattle.problems.specs.Problems.{Problem}
 use Rattle.floors.specs.Settings.{Formed}
 use Rattle.floors.specs.Shapes.{shaped}
-use Rattle.search.specs.Searches.{Spot, Search, Ran, start, started, size_at, ended, fit, steady, settled, path_cost, visited, ran}
-use Rattle.search.specs.Theorems.{Reached}
+use Rattle.search.specs.Searches.{Spot, Search, Ran, start, size_at, ended, fit, steady, settled, path_cost, visited, ran}
 use Rattle.search.proofs.Points.{size_positive}
 
 -- the parts of being steady
@@ -87,7 +86,3 @@ module _ {C : Type 0} (K : Structure C) (p : Problem C) (floor : List ℕ → C)
       ran_both K p floor k s (λ r. steady p.sizes p.order r.search.spot ≡ true)
       (λ e. holds)
       (λ e. steady_ran k (visited K p floor s) (steady_visited s e holds))
-
-  pub steady_reached : 0 < length p.sizes → (limit : C) (k visits : ℕ) (s : Search C) → Reached K p floor limit k visits s → steady p.sizes p.order s.spot ≡ true
-  steady_reached some limit k visits s reached =
-      subst (λ (r : Ran C). steady p.sizes p.order r.search.spot ≡ true) reached (steady_ran k (started limit) (steady_start formed some))

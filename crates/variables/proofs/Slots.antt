@@ -23,9 +23,6 @@ each_after P xs i x d here old v = elim (cases_eq v i) [
 pub in_use : {X : Type 0} (n : ℕ) (xs : List X) (v : ℕ) (d : X) → v < n → get_or (take n xs) v d ≡ get_or xs v d
 in_use n xs v d h = get_or-take n xs v d h
 
-pub past_use : {X : Type 0} (n : ℕ) (xs : List X) (v : ℕ) (d : X) → n ≤ length xs → n ≤ v → get_or (take n xs) v d ≡ d
-past_use n xs v d l h = get_or_past (take n xs) v d (omega (arith, length-take-le n xs l))
-
 -- a list copied into zeroed slots, one more of it
 pub copied : (xs slots : List ℕ) (i : ℕ) → i < length xs → i < length slots → ((v : ℕ) → get_or slots v 0 ≡ get_or (take i xs) v 0)
     → (v : ℕ) → get_or (set slots i (get_or xs i 0)) v 0 ≡ get_or (take (i + 1) xs) v 0
