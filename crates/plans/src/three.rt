@@ -37,8 +37,8 @@ fn put<C: Cost, S>(
     area: &mut [C],
 ) -> Result<(), Fail> {
     let number = job.enter(scope, C::neutral(), area)?;
-    for k in 0..4 {
-        job.amend(number, &PAIRS[k], table[k], area)?;
+    for (pair, cost) in PAIRS.iter().zip(&table) {
+        job.amend(number, pair, *cost, area)?;
     }
     Ok(())
 }
