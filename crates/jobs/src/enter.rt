@@ -22,6 +22,7 @@ impl<C: Cost, S> Job<C, S> {
         let number = shape.enter(scope, area.len())?;
         let start = plain.shape.used();
         let end = shape.used();
+        // Not a fill: it asks for a clone that cannot fail, which the trait Cost does not promise.
         area[start..end].fill_with(|| cost);
         self.plain = Plain::fresh(Stage::Draft, shape, plain.noted);
         Ok(number)
