@@ -1,6 +1,6 @@
 // The edges of amend.
-use crate::support::{NoFloors, number};
-use jobs::job::Job;
+use crate::support::number;
+use jobs::job::{Job, NoFloors};
 use jobs::stage::Stage;
 use std::process::Abort;
 use std::test::Fail;
@@ -15,7 +15,7 @@ fn amended(
 ) -> Result<(u8, Option<usize>), Fail> {
     let mut area = [7; 12];
     assert!(rt; lent <= 12);
-    let mut job: Job<u32, NoFloors> = Job::new(NoFloors {});
+    let mut job: Job<u32, NoFloors> = Job::new(NoFloors);
     job.open(&[2, 4, 3], &area[0..11])?;
     job.enter(&[], 4, &mut area[0..11])?;
     job.enter(&[0, 2], 5, &mut area[0..11])?;
@@ -25,10 +25,10 @@ fn amended(
     assert_eq!(rt; job.shape().function_count(), 2);
     assert_eq!(rt; job.shape().used(), 9);
     let mut changed = None;
-    for k in 0..12 {
-        if area[k] != before[k] {
+    for (k, (now, was)) in area.into_iter().zip(before).enumerate() {
+        if now != was {
             assert_eq!(rt; changed, None);
-            assert_eq!(rt; area[k], 6);
+            assert_eq!(rt; now, 6);
             changed = Some(k);
         }
     }

@@ -1,6 +1,6 @@
 // The edges of enter.
-use crate::support::{NoFloors, number};
-use jobs::job::Job;
+use crate::support::number;
+use jobs::job::{Job, NoFloors};
 use jobs::stage::Stage;
 use std::process::Abort;
 use std::test::Fail;
@@ -10,7 +10,7 @@ use std::test::Fail;
 fn entered(rt: &impl Abort, scope: &[u8], noted: usize, lent: usize) -> Result<u8, Fail> {
     let mut area = [7; 40];
     assert!(rt; noted <= 40 && lent <= 40);
-    let mut job: Job<u32, NoFloors> = Job::new(NoFloors {});
+    let mut job: Job<u32, NoFloors> = Job::new(NoFloors);
     job.open(&[2; 6], &area[0..noted])?;
     let answer = number(job.enter(scope, 5, &mut area[0..lent]));
     assert_eq!(rt; job.stage(), Stage::Draft);
@@ -65,7 +65,7 @@ fn areas_have_their_limits(rt: HostRuntime) -> Result<(), Fail> {
 #[test]
 fn tables_lie_one_behind_the_other(rt: HostRuntime) -> Result<(), Fail> {
     let mut area = [7; 9];
-    let mut job: Job<u32, NoFloors> = Job::new(NoFloors {});
+    let mut job: Job<u32, NoFloors> = Job::new(NoFloors);
     job.open(&[2, 3], &area)?;
     assert_eq!(rt; job.enter(&[1], 4, &mut area)?, 0);
     assert_eq!(rt; number(job.enter(&[0, 1], 5, &mut area)), 8);
@@ -80,7 +80,7 @@ fn tables_lie_one_behind_the_other(rt: HostRuntime) -> Result<(), Fail> {
 
 // Enters 64 functions of no variables, and then one too many.
 fn crowded(rt: &impl Abort, area: &mut [u32]) -> Result<(), Fail> {
-    let mut job: Job<u32, NoFloors> = Job::new(NoFloors {});
+    let mut job: Job<u32, NoFloors> = Job::new(NoFloors);
     job.open(&[2], area)?;
     for k in 0..64 {
         assert_eq!(rt; job.enter(&[], 5, area)?, k);
@@ -101,18 +101,17 @@ fn the_65th_function_is_refused(rt: HostRuntime) -> Result<(), Fail> {
     crowded(&rt, &mut full)?;
     let mut roomy = [7; 68];
     crowded(&rt, &mut roomy)?;
-    for k in 0..66 {
-        let cost = if k < 2 { 7 } else { 5 };
-        assert_eq!(rt; (full[k], roomy[k]), (cost, cost));
-    }
-    assert_eq!(rt; (roomy[66], roomy[67]), (7, 7));
+    let mut expected = [7; 68];
+    expected[2..66].fill(5);
+    assert_eq!(rt; &full[..], &expected[..66]);
+    assert_eq!(rt; roomy, expected);
     Ok(())
 }
 
 #[test]
 fn the_largest_tables_need_the_largest_area(rt: HostRuntime) -> Result<(), Fail> {
     let mut area = [7; 16_384];
-    let mut job: Job<u32, NoFloors> = Job::new(NoFloors {});
+    let mut job: Job<u32, NoFloors> = Job::new(NoFloors);
     job.open(&[16; 5], &area)?;
     assert_eq!(rt; number(job.enter(&[0, 1, 2, 3, 4], 5, &mut area)), 8);
     assert_eq!(rt; job.enter(&[0, 1, 2], 5, &mut area)?, 0);

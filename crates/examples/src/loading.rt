@@ -1,6 +1,5 @@
 // The edges of load, through a job.
-use crate::support::NoFloors;
-use jobs::job::Job;
+use jobs::job::{Job, NoFloors};
 use jobs::stage::Stage;
 use std::alloc::{AllocError, Global};
 use std::process::Abort;
@@ -11,7 +10,7 @@ type Answer = Result<u32, (u8, Option<u8>, usize)>;
 
 // Loads a text into a job that is Closed, and checks the stage that it leaves.
 fn loaded(rt: &impl Abort, text: &[u8], area: &mut [u32]) -> Result<Answer, Fail> {
-    let mut job: Job<u32, NoFloors> = Job::new(NoFloors {});
+    let mut job: Job<u32, NoFloors> = Job::new(NoFloors);
     match job.load(text, area) {
         Ok(upper) => {
             assert_eq!(rt; job.stage(), Stage::Draft);
@@ -53,16 +52,10 @@ fn five_variables_are_loaded(rt: HostRuntime) -> Result<(), Fail> {
     let mut area = [7; 35];
     let text = b"t 5 2 1 9 2 2 2 2 2 5 4 3 2 1 0 6 1 0 1 1 1 1 8";
     assert_eq!(rt; loaded(&rt, text, &mut area)?, Ok(9));
-    for k in 0..35 {
-        let cost = if k == 2 + 15 {
-            8
-        } else if k >= 2 && k < 2 + 32 {
-            6
-        } else {
-            7
-        };
-        assert_eq!(rt; area[k], cost);
-    }
+    let mut expected = [7; 35];
+    expected[2..2 + 32].fill(6);
+    expected[2 + 15] = 8;
+    assert_eq!(rt; area, expected);
     Ok(())
 }
 
@@ -112,7 +105,7 @@ fn a_refused_text_changes_nothing(rt: HostRuntime) -> Result<(), Fail> {
 #[test]
 fn a_draft_loads_nothing_and_goes_on(rt: HostRuntime) -> Result<(), Fail> {
     let mut area = [7; 9];
-    let mut job: Job<u32, NoFloors> = Job::new(NoFloors {});
+    let mut job: Job<u32, NoFloors> = Job::new(NoFloors);
     assert_eq!(rt; job.load(b"t 2 2 1 9 2 1 1 0 5 1 1 6", &mut area)?, 9);
     assert_eq!(rt; job.stage(), Stage::Draft);
     assert_eq!(rt; area, [7, 7, 5, 6, 7, 7, 7, 7, 7]);

@@ -1,6 +1,6 @@
 // The edges of open, and of the stages.
-use crate::support::{NoFloors, number};
-use jobs::job::Job;
+use crate::support::number;
+use jobs::job::{Job, NoFloors};
 use jobs::stage::Stage;
 use std::process::Abort;
 use std::test::Fail;
@@ -11,7 +11,7 @@ fn opened(rt: &impl Abort, variables: usize, size: u8, cells: usize) -> (u8, Sta
     let sizes = [size; 33];
     let area = [0; 16_385];
     assert!(rt; variables <= 33 && cells <= 16_385);
-    let mut job: Job<u32, NoFloors> = Job::new(NoFloors {});
+    let mut job: Job<u32, NoFloors> = Job::new(NoFloors);
     let answer = number(job.open(&sizes[0..variables], &area[0..cells]));
     (answer, job.stage())
 }
@@ -55,7 +55,7 @@ fn what_is_just_beyond_is_refused(rt: HostRuntime) {
 #[test]
 fn one_bad_size_is_enough(rt: HostRuntime) {
     let area = [0; 2];
-    let mut job: Job<u32, NoFloors> = Job::new(NoFloors {});
+    let mut job: Job<u32, NoFloors> = Job::new(NoFloors);
     assert_eq!(rt; number(job.open(&[2, 16, 17], &area)), 2);
     assert_eq!(rt; number(job.open(&[0, 16, 2], &area)), 2);
     assert_eq!(rt; number(job.open(&[2, 16, 1], &area)), 0);
@@ -64,7 +64,7 @@ fn one_bad_size_is_enough(rt: HostRuntime) {
 #[test]
 fn a_closed_job_takes_no_functions(rt: HostRuntime) {
     let mut area = [7; 8];
-    let mut job: Job<u32, NoFloors> = Job::new(NoFloors {});
+    let mut job: Job<u32, NoFloors> = Job::new(NoFloors);
     assert_eq!(rt; number(job.enter(&[0], 5, &mut area)), 4);
     assert_eq!(rt; number(job.amend(0, &[0], 5, &mut area)), 4);
     assert_eq!(rt; job.stage(), Stage::Closed);
@@ -74,7 +74,7 @@ fn a_closed_job_takes_no_functions(rt: HostRuntime) {
 #[test]
 fn a_draft_is_not_opened_again(rt: HostRuntime) -> Result<(), Fail> {
     let mut area = [7; 8];
-    let mut job: Job<u32, NoFloors> = Job::new(NoFloors {});
+    let mut job: Job<u32, NoFloors> = Job::new(NoFloors);
     job.open(&[2], &area)?;
     job.enter(&[0], 5, &mut area)?;
     // the stage comes before every other row
@@ -89,7 +89,7 @@ fn a_draft_is_not_opened_again(rt: HostRuntime) -> Result<(), Fail> {
 #[test]
 fn a_job_is_closed_from_either_stage(rt: HostRuntime) -> Result<(), Fail> {
     let mut area = [7; 8];
-    let mut job: Job<u32, NoFloors> = Job::new(NoFloors {});
+    let mut job: Job<u32, NoFloors> = Job::new(NoFloors);
     job.close();
     assert_eq!(rt; job.stage(), Stage::Closed);
     job.open(&[2], &area)?;

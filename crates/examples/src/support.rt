@@ -1,10 +1,6 @@
 // What the tests share.
 use variables::refusal::Refusal;
 
-// A source of floors that has none.
-#[derive(Drop)]
-pub struct NoFloors {}
-
 // The number of a refusal, 0 for a call that passed.
 pub(crate) fn number<T: Drop>(answer: Result<T, Refusal>) -> u8 {
     match answer {

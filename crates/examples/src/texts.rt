@@ -53,8 +53,8 @@ fn what_is_just_within_is_loaded(rt: HostRuntime) {
 fn a_text_cut_off_has_ended(rt: HostRuntime) {
     let text = b"t 2 3 1 9 2 3 2 1 0 5 1 2 0 7";
     assert_eq!(rt; fault(text), None);
-    for end in 0..text.len() {
-        if text[end] == b' ' {
+    for (end, byte) in text.iter().enumerate() {
+        if *byte == b' ' {
             let flaw = Flaw::Ended;
             assert_eq!(rt; fault(&text[..end]), Some(Fault { flaw, at: end }));
         }

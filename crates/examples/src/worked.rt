@@ -1,7 +1,6 @@
 // Three variables of two values, with a function for each two of them.
-use crate::support::NoFloors;
 use costs::Cost;
-use jobs::job::Job;
+use jobs::job::{Job, NoFloors};
 use std::process::Abort;
 use std::test::Fail;
 use variables::setting::Setting;
@@ -35,15 +34,15 @@ fn put<C: Cost>(
     area: &mut [C],
 ) -> Result<(), Fail> {
     let number = job.enter(scope, C::neutral(), area)?;
-    for k in 0..4 {
-        job.amend(number, &PAIRS[k], table[k], area)?;
+    for (pair, cost) in PAIRS.iter().zip(&table) {
+        job.amend(number, pair, *cost, area)?;
     }
     Ok(())
 }
 
 // The job, entered call by call.
 fn built<C: Cost>(tables: [[C; 4]; 3], area: &mut [C]) -> Result<Job<C, NoFloors>, Fail> {
-    let mut job = Job::new(NoFloors {});
+    let mut job = Job::new(NoFloors);
     job.open(&[2, 2, 2], area)?;
     put(&mut job, &[0, 1], tables[0], area)?;
     put(&mut job, &[1, 2], tables[1], area)?;
@@ -73,7 +72,7 @@ fn entered_and_loaded_are_the_same(rt: HostRuntime) -> Result<(), Fail> {
     assert_eq!(rt; area, [8, 8, 2, 4, 0, 5, 0, 4, 5, 1, 3, 0, 6, 2, 8]);
     prices(&rt, &job, &area)?;
     let mut other = [8; 15];
-    let mut loaded: Job<u32, NoFloors> = Job::new(NoFloors {});
+    let mut loaded: Job<u32, NoFloors> = Job::new(NoFloors);
     assert_eq!(rt; loaded.load(TEXT, &mut other)?, 100);
     assert_eq!(rt; other, area);
     prices(&rt, &loaded, &other)

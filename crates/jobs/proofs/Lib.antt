@@ -1,9 +1,8 @@
 pub mod Rows
-pub mod Stands
 pub mod Sounds
 pub mod Forms
 pub mod Texts
-pub mod Drafts
+pub mod Passed
 pub mod Fills
 pub mod Entries
 pub mod Preparing

@@ -1,6 +1,5 @@
 -- From what the parts of `prepare` did to what it promises.
 use Rattle.std.proofs.Common.{◌≡◌, ℕ, ◌+◌, ◌≤◌, true, not, ◌&&◌, eqb, List, length, set, None, sym, ap, ◌∙◌, subst, arith}
-use Rattle.std.proofs.lemmas.List.{length-set}
 use Rattle.std.proofs.lemmas.Bool.{and_parts, eqb-true, not-false, ltb-false, cond-false}
 use Rattle.problems.specs.declared.shape.Shape.{Shape}
 use Rattle.variables.specs.Lists.{known, distinct}
@@ -9,14 +8,13 @@ use Rattle.variables.specs.Rules.{is_order, order_rows}
 use Rattle.problems.specs.Outlines.{Outline, outline, ordered, problem}
 use Rattle.variables.proofs.Rows.{no_row, rows_passed}
 use Rattle.floors.specs.Rules.{Rules, Fills, frame}
-use Rattle.search.specs.Searches.{Spot, start, ended}
+use Rattle.search.specs.Searches.{start, ended}
 use Rattle.jobs.specs.declared.stage.Stage.{Stage}
 use Rattle.jobs.specs.declared.stage.Stage.TheVariants.{Running, Ended}
 use Rattle.jobs.specs.declared.job.Job.{Job}
 use Rattle.jobs.specs.Invariants.{sound}
-use Rattle.jobs.specs.Standings.{standing, stage_at}
+use Rattle.jobs.specs.Standings.{Standing, standing, fresh, stage_at}
 use Rattle.jobs.specs.Planning.{limited, source_rows, Prepared}
-use Rattle.jobs.proofs.Stands.{same_standing}
 use Rattle.jobs.proofs.Sounds.{search_sound, start_goes_on, start_steady}
 use Rattle.jobs.proofs.Forms.{first_size, write_before, write_behind}
 
@@ -29,8 +27,8 @@ module _ (before shape : Shape) (order : List ℕ) (arranged_is : outline shape 
   some_variable : 1 ≤ length (outline shape).sizes
   some_variable = omega (arith, some, ap (λ (o : Outline). length o.sizes) arranged_is)
 
-  pub started_sound : (noted : ℕ) (s : Spot) → s ≡ start → (outline before).used ≤ noted → sound Running (outline shape) noted s ≡ true
-  started_sound noted s at_start inside =
+  pub started_sound : (noted : ℕ) → (outline before).used ≤ noted → sound Running (outline shape) noted start ≡ true
+  started_sound noted inside =
       let o = outline shape in
       let n = length o.sizes in
       let parts = and_parts (eqb (length o.order) n) (known n o.order && distinct o.order) has_order in
@@ -39,12 +37,7 @@ module _ (before shape : Shape) (order : List ℕ) (arranged_is : outline shape 
       let first = first_size shape.sizes o.order named (and_parts (known n o.order) (distinct o.order) parts.1).0 in
       let runs : stage_at o start ≡ Running = cond-false (ended o.sizes o.order start) Ended Running (start_goes_on o named first) in
       let room : o.used ≤ noted = omega (arith, inside, ap (λ (o : Outline). o.used) arranged_is) in
-      ap (sound Running o noted) at_start ∙ ap (λ (stage : Stage). sound stage o noted start) (sym runs)
-      ∙ search_sound o noted start some_variable room has_order (start_steady o named first)
-
--- the limit and the bar leave the area as long as it was
-pub limited_long : {C : Type 0} (area : List C) (limit : C) (begun : List C) → begun ≡ limited area limit → length begun ≡ length area
-limited_long area limit begun e = ap length e ∙ length-set (set area 0 limit) 1 limit ∙ length-set area 0 limit
+      ap (λ (stage : Stage). sound stage o noted start) (sym runs) ∙ search_sound o noted start some_variable room has_order (start_steady o named first)
 
 -- a source that suits, with room for its cells
 module _ {C S : Type 0} (R : Rules C S) (s : S) (o : Outline) (cells : ℕ) (rows : first_of (source_rows R s o cells) ≡ None) where
@@ -54,21 +47,20 @@ module _ {C S : Type 0} (R : Rules C S) (s : S) (o : Outline) (cells : ℕ) (row
   pub roomy : o.used + R.room s (frame o) ≤ cells
   roomy = ltb-false cells (o.used + R.room s (frame o)) (no_row _ _ (rows_passed (not (R.suits s (frame o))) _ _ rows).1)
 
-module _ {C S : Type 0} (R : Rules C S) (b a : Job C S) (area area' : List C) (order : List ℕ) (limit : C) (at : ℕ) (begun : List C)
-    (staged : (standing a).stage ≡ Running) (shaped : (standing a).outline ≡ ordered (standing b).outline order) (noted : (standing a).noted ≡ (standing b).noted)
-    (at_start : (standing a).spot ≡ start) (none : (standing a).visits ≡ 0) (begins : at ≡ (standing a).outline.used)
-    (set_is : begun ≡ limited area limit) (fills : Fills R (standing a).outline b.source a.source begun area' at) where
+module _ {C S : Type 0} (R : Rules C S) (b a : Job C S) (area area' : List C) (order : List ℕ) (limit : C) (at : ℕ) (shape : Outline)
+    (shaped : shape ≡ ordered (standing b).outline order) (there : standing a ≡ fresh Running shape (standing b).noted) (begins : at ≡ shape.used)
+    (fills : Fills R shape b.source a.source (limited area limit) area' at) where
   pub prepared_is : Prepared R b a area area' order limit
   prepared_is =
       let o = ordered (standing b).outline order in
-      let shape = b.plain.shape in
+      let tables = b.plain.shape in
+      let stands : standing a ≡ fresh Running o (standing b).noted = there ∙ ap (λ (o : Outline). fresh Running o (standing b).noted) shaped in
       let from : at ≡ (standing b).outline.used = begins ∙ ap (λ (o : Outline). o.used) shaped in
-      let fills₀ = subst (λ (xs : List C). Fills R (standing a).outline b.source a.source xs area' at) set_is fills in
-      let fills₁ = subst (λ (o : Outline). Fills R o b.source a.source (limited area limit) area' at) shaped fills₀ in
+      let fills₁ = subst (λ (o : Outline). Fills R o b.source a.source (limited area limit) area' at) shaped fills in
       let fills₂ = subst (λ (k : ℕ). Fills R o b.source a.source (limited area limit) area' k) from fills₁ in
       record {
-        standing_is = same_standing (standing a) (record { stage = Running; outline = o; noted = (standing b).noted; spot = start; visits = 0 }) staged shaped noted at_start none;
+        standing_is = stands;
         fills = fills₂;
-        problem_is = ap (λ (o : Outline). problem o area') shaped ∙ write_behind shape order (limited area limit) area' fills₂.before
-            ∙ write_before shape order (set area 0 limit) 1 limit (omega arith) ∙ write_before shape order area 0 limit (omega arith);
+        problem_is = ap (λ (j : Standing). problem j.outline area') stands ∙ write_behind tables order (limited area limit) area' fills₂.before
+            ∙ write_before tables order (set area 0 limit) 1 limit (omega arith) ∙ write_before tables order area 0 limit (omega arith);
       }

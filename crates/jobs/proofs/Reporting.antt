@@ -1,5 +1,5 @@
 -- From what the parts of `report` did to what it promises.
-use Rattle.std.proofs.Common.{◌≡◌, ℕ, zero, suc, ◌+◌, ◌<◌, Bool, true, eqb, List, [], ◌∷◌, ◌++◌, map, length, get_or, drop, set, is_some, Some, None, Option, sym, refl, ap, ◌∙◌, subst, ap₂, append_assoc, append-nil, arith}
+use Rattle.std.proofs.Common.{◌≡◌, ℕ, zero, suc, ◌+◌, ◌<◌, true, eqb, List, [], ◌∷◌, ◌++◌, map, length, get_or, drop, set, is_some, Some, None, Option, sym, refl, ap, ◌∙◌, subst, ap₂, append_assoc, append-nil, arith}
 use Rattle.std.specs.Option.{option_map}
 use Rattle.std.proofs.lemmas.List.{drop_more, drop_all, set_at, map_push, length-map}
 use Rattle.std.proofs.lemmas.Bool.{not-false, eqb-true}
@@ -77,11 +77,11 @@ mapped_some f (Some s) = refl
 pub found_some : (f : Setting → List ℕ) (found : Option Setting) (incumbent : Option (List ℕ)) → option_map f found ≡ incumbent → is_some incumbent ≡ is_some found
 found_some f found incumbent e = ap is_some (sym e) ∙ mapped_some f found
 
-module _ {C S : Type 0} (R : Rules C S) (K : Structure C) (j : Job C S) (area : List C) (buffer buffer' : List ℕ) (verdict : Verdict) (bar bottom : C) (found : Option Setting) (some : Bool) (at : ℕ) (x : List ℕ)
+module _ {C S : Type 0} (R : Rules C S) (K : Structure C) (j : Job C S) (area : List C) (buffer buffer' : List ℕ) (verdict : Verdict) (bar bottom : C) (found : Option Setting) (at : ℕ) (x : List ℕ)
     (formed : Formed (problem (standing j).outline area)) (long : length buffer ≡ length (standing j).outline.sizes)
     (incumbent : option_map (λ s. map (of (values_of s)) (standing j).outline.order) found ≡ (standing j).spot.incumbent)
-    (some_is : some ≡ is_some found) (listed-is : buffer' ≡ listing found buffer)
-    (verdict_is : (i : Option (List ℕ)) → is_some i ≡ some → verdict ≡ verdict_of (standing j).stage i)
+    (listed-is : buffer' ≡ listing found buffer)
+    (verdict_is : (i : Option (List ℕ)) → is_some i ≡ is_some found → verdict ≡ verdict_of (standing j).stage i)
     (bar_is : bar ≡ get_or area 1 K.neutral) (begins : at ≡ (standing j).outline.used) (empty : x ≡ [])
     (told : Told R (standing j).outline j.source area at x bottom) where
   pub reports_is : Reports R K j area buffer buffer' (record { verdict = verdict; cost = bar; bottom = bottom; visits = (standing j).visits })
@@ -90,7 +90,7 @@ module _ {C S : Type 0} (R : Rules C S) (K : Structure C) (j : Job C S) (area : 
       let told₁ = subst (λ (k : ℕ). Told R o j.source area k x bottom) begins told in
       let told₂ = subst (λ (y : List ℕ). Told R o j.source area o.used y bottom) empty told₁ in
       record {
-        verdict_is = verdict_is (standing j).spot.incumbent (found_some _ found (standing j).spot.incumbent incumbent ∙ sym some_is);
+        verdict_is = verdict_is (standing j).spot.incumbent (found_some _ found (standing j).spot.incumbent incumbent);
         buffer_is = listed-is ∙ listing_written (problem o area) formed buffer long found (standing j).spot.incumbent incumbent;
         cost_is = bar_is;
         visits_are = refl;

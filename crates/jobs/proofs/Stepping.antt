@@ -1,5 +1,5 @@
 -- From what the parts of `step` did to what it promises.
-use Rattle.std.proofs.Common.{◌≡◌, ℕ, zero, suc, ◌≤◌, true, List, length, get_or, set, sym, refl, ap, ◌∙◌, subst, ap₂, arith}
+use Rattle.std.proofs.Common.{◌≡◌, ℕ, zero, suc, ◌+◌, ◌≤◌, min, true, List, length, get_or, set, sym, refl, ap, ◌∙◌, subst, ap₂, arith}
 use Rattle.std.proofs.lemmas.List.{set-get_or, get_or-set_same}
 use Rattle.std.proofs.lemmas.Bool.{cond-true}
 use Rattle.costs.specs.Structures.{Structure}
@@ -9,11 +9,11 @@ use Rattle.floors.specs.Settings.{Formed}
 use Rattle.floors.specs.Rules.{Rules}
 use Rattle.search.specs.Searches.{Spot, Search, ran, ended, steady}
 use Rattle.search.specs.Places.{Runs}
+use Rattle.jobs.specs.declared.stage.Stage.{Stage}
 use Rattle.jobs.specs.declared.stage.Stage.TheVariants.{Running, Ended}
 use Rattle.jobs.specs.declared.job.Job.{Job}
 use Rattle.jobs.specs.Standings.{Standing, standing, moved}
 use Rattle.jobs.specs.Planning.{search_in, Steps}
-use Rattle.jobs.proofs.Stands.{same_standing}
 use Rattle.jobs.proofs.Forms.{write_before}
 
 -- a search that has ended makes no visit
@@ -28,7 +28,9 @@ module _ {C S : Type 0} (R : Rules C S) (K : Structure C) (b : Job C S) (area : 
   steps_rest staged over shown =
       let o = (standing b).outline in
       let s = (standing b).spot in
-      let there = same_standing (standing b) (moved (standing b) s 0) (staged ∙ sym (cond-true (ended o.sizes o.order s) Ended Running over)) refl refl refl (omega arith) in
+      let still : (standing b).visits ≡ min ((standing b).visits + 0) 4294967295 = omega arith in
+      let there : standing b ≡ moved (standing b) s 0 =
+      ap₂ (λ (x : Stage) (n : ℕ). record { stage = x; outline = o; noted = (standing b).noted; spot = s; visits = n }) (staged ∙ sym (cond-true (ended o.sizes o.order s) Ended Running over)) still in
       record {
         few = omega arith;
         stands = record { standing_is = there; source_is = refl };
@@ -43,7 +45,7 @@ module _ {C S : Type 0} (R : Rules C S) (K : Structure C) (b : Job C S) (area : 
       (goes : (standing b).stage ≡ Ended → ⊥) (two : 2 ≤ length area) (begins : at ≡ (standing b).outline.used) (bar_is : first ≡ get_or area 1 K.neutral)
       (run : Runs R K (standing b).outline b.source area at budget (record { spot = (standing b).spot; bar = first }) (record { spot = s; bar = bar }) visits)
       (formed : Formed (problem (standing b).outline area)) (still : steady (standing b).outline.sizes (standing b).outline.order (standing b).spot ≡ true) where
-    steps : Steps R K b a area (set area 1 bar) budget (record { visits = visits; stage = (standing a).stage })
+    pub steps : Steps R K b a area (set area 1 bar) budget (record { visits = visits; stage = (standing a).stage })
     steps =
         let o = (standing b).outline in
         let p = problem o area in
@@ -62,6 +64,3 @@ module _ {C S : Type 0} (R : Rules C S) (K : Structure C) (b : Job C S) (area : 
               ap (λ c. ran K p floor budget (record { spot = (standing b).spot; bar = c })) (sym bar_is) ∙ run'
               ∙ ap₂ (λ (t : Spot) (c : C). record { visits = visits; search = record { spot = t; bar = c } }) (sym spot) (sym kept);
         }
-
-    pub steps_on : (area' : List C) → area' ≡ set area 1 bar → Steps R K b a area area' budget (record { visits = visits; stage = (standing a).stage })
-    steps_on area' e = subst (λ (xs : List C). Steps R K b a area xs budget (record { visits = visits; stage = (standing a).stage })) (sym e) steps

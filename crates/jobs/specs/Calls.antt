@@ -6,6 +6,7 @@ use Rattle.variables.specs.Rules.{sizes_rows}
 use Rattle.variables.specs.Assignments.{cells}
 use Rattle.problems.specs.Problems.{with_function, with_cost}
 use Rattle.problems.specs.Outlines.{opened, entered, entering, amending, cell_of, problem}
+use Rattle.jobs.specs.declared.stage.Call.{Call}
 use Rattle.jobs.specs.declared.stage.Call.TheVariants.{Open, Enter, Amend}
 use Rattle.jobs.specs.declared.job.Job.{Job}
 use Rattle.jobs.specs.Stages.{stage_rows}
@@ -18,6 +19,10 @@ area_rows cells = record { when = nat_lt cells 2 || nat_lt 16384 cells; refusal 
 -- the area that a call brings is as long as the one that was noted
 abbrev pub length_rows : ℕ → ℕ → List Row
 length_rows noted cells = record { when = not (cells == noted); refusal = AreaLength } ∷ []
+
+-- what a call that brings an area to an open job is asked first
+abbrev pub call_rows : Standing → Call → ℕ → List Row
+call_rows j call cells = stage_rows j.stage call ++ length_rows j.noted cells
 
 abbrev pub open_rows : Standing → List ℕ → ℕ → List Row
 open_rows j sizes cells = stage_rows j.stage Open ++ (sizes_rows sizes ++ area_rows cells)

@@ -49,5 +49,16 @@ takes stage Step = is_running stage || is_ended stage
 takes stage Report = is_running stage || is_ended stage
 takes stage Reopen = is_running stage || is_ended stage
 
+-- the calls that begin with a closed job
+abbrev pub opens : Call → Bool
+opens Open = true
+opens Load = true
+opens Enter = false
+opens Amend = false
+opens Prepare = false
+opens Step = false
+opens Report = false
+opens Reopen = false
+
 abbrev pub stage_rows : Stage → Call → List Row
 stage_rows stage call = record { when = not (takes stage call); refusal = WrongStage } ∷ []

@@ -22,6 +22,10 @@ standing_of p = record { stage = p.stage; outline = outline p.shape; noted = p.n
 abbrev pub standing : {C S : Type 0} → Job C S → Standing
 standing j = standing_of j.plain
 
+-- a search that has not begun
+abbrev pub fresh : Stage → Outline → ℕ → Standing
+fresh stage o noted = record { stage = stage; outline = o; noted = noted; spot = start; visits = 0 }
+
 -- a draft, whose search has not begun
 abbrev pub draft : Outline → ℕ → Standing
 draft o noted = record { stage = Draft; outline = o; noted = noted; spot = start; visits = 0 }

@@ -23,8 +23,7 @@ impl<C: Cost, S> Job<C, S> {
             ((self.new ≡ self.old) × (area.new ≡ area.old)) }
     {
         let plain = self.plain;
-        plain.stage.takes(Call::Amend)?;
-        plain.takes_area(area.len())?;
+        plain.takes(Call::Amend, area.len())?;
         let at = plain.shape.cell(function, tuple)?;
         area[at] = cost;
         Ok(())

@@ -31,3 +31,7 @@ pub struct Job<C, S> {
     pub(crate) source: S,
     pub(crate) costs: PhantomData<C>,
 }
+
+// No source of floors, for a job that never asks for one.
+#[derive(Drop)]
+pub struct NoFloors;

@@ -9,6 +9,7 @@ mod enter;
 pub mod job;
 mod load;
 mod open;
+mod plain;
 mod prepare;
 mod reopen;
 mod report;

@@ -5,7 +5,6 @@ ghost use Rattle.jobs.specs.Standings.{standing};
 
 use crate::job::{Job, Plain};
 use crate::stage::{Call, Stage};
-use search::place::Place;
 use wcsp::load::load;
 use words::fault::Fault;
 
@@ -17,13 +16,7 @@ impl<S> Job<u32, S> {
     {
         self.plain.stage.takes(Call::Load)?;
         let loaded = load(text, area)?;
-        self.plain = Plain {
-            stage: Stage::Draft,
-            shape: loaded.shape,
-            noted: area.len(),
-            place: Place::start(),
-            visits: 0,
-        };
+        self.plain = Plain::fresh(Stage::Draft, loaded.shape, area.len());
         Ok(loaded.upper)
     }
 }

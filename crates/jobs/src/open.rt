@@ -3,29 +3,14 @@ ghost use Rattle.std.specs.Prelude.{◌≡◌, length};
 ghost use Rattle.problems.specs.Outlines.{outline};
 ghost use Rattle.variables.specs.Refusals.{Answers, first_of};
 ghost use Rattle.jobs.specs.Calls.{open_rows, Opened};
-ghost use Rattle.jobs.specs.Standings.{standing, standing_of, closed, Stands};
+ghost use Rattle.jobs.specs.Standings.{standing, closed, Stands};
 
 use crate::job::{Job, Plain};
 use crate::stage::{Call, Stage};
 use costs::Cost;
 use problems::shape::{MOST_CELLS, Shape};
-use search::place::Place;
 use std::marker::PhantomData;
 use variables::refusal::Refusal;
-
-impl Plain {
-    pub(crate) fn closed() -> Plain
-        ensures { standing_of result ≡ closed }
-    {
-        Plain {
-            stage: Stage::Closed,
-            shape: Shape::none(),
-            noted: 0,
-            place: Place::start(),
-            visits: 0,
-        }
-    }
-}
 
 impl<C: Cost, S> Job<C, S> {
     // A new job, Closed.
@@ -52,13 +37,7 @@ impl<C: Cost, S> Job<C, S> {
         if noted < 2 || noted > MOST_CELLS {
             return Err(Refusal::Area);
         }
-        self.plain = Plain {
-            stage: Stage::Draft,
-            shape,
-            noted,
-            place: Place::start(),
-            visits: 0,
-        };
+        self.plain = Plain::fresh(Stage::Draft, shape, noted);
         Ok(())
     }
 

@@ -5,13 +5,12 @@ ghost use Rattle.variables.specs.Refusals.{Answers, first_of};
 ghost use Rattle.jobs.specs.Planning.{source_rows, prepare_rows, Prepared};
 ghost use Rattle.jobs.specs.Standings.{standing};
 
-use crate::cells::set_limit;
+use crate::cells::{BAR, LIMIT};
 use crate::job::{Job, Plain};
 use crate::stage::{Call, Stage};
 use costs::Cost;
 use floors::source::FloorSource;
 use problems::shape::Shape;
-use search::place::Place;
 use variables::refusal::Refusal;
 
 // The source has to take the job, and its cells to be there behind the tables.
@@ -41,20 +40,14 @@ impl<C: Cost, S: FloorSource<C>> Job<C, S> {
             ((self.new ≡ self.old) × (area.new ≡ area.old)) }
     {
         let plain = self.plain;
-        plain.stage.takes(Call::Prepare)?;
-        plain.takes_area(area.len())?;
+        plain.takes(Call::Prepare, area.len())?;
         let mut shape = plain.shape;
         shape.arrange(order)?;
         takes_source(&self.source, &shape, area.len())?;
-        set_limit(area, limit);
+        area[LIMIT] = limit;
+        area[BAR] = limit;
         self.source.fill(&shape, area, shape.used());
-        self.plain = Plain {
-            stage: Stage::Running,
-            shape,
-            noted: plain.noted,
-            place: Place::start(),
-            visits: 0,
-        };
+        self.plain = Plain::fresh(Stage::Running, shape, plain.noted);
         Ok(())
     }
 }

@@ -7,7 +7,6 @@ ghost use Rattle.jobs.specs.Standings.{standing};
 use crate::job::{Job, Plain};
 use crate::stage::{Call, Stage};
 use costs::Cost;
-use search::place::Place;
 use variables::refusal::Refusal;
 
 impl<C: Cost, S> Job<C, S> {
@@ -19,13 +18,7 @@ impl<C: Cost, S> Job<C, S> {
     {
         let plain = self.plain;
         plain.stage.takes(Call::Reopen)?;
-        self.plain = Plain {
-            stage: Stage::Draft,
-            shape: plain.shape,
-            noted: plain.noted,
-            place: Place::start(),
-            visits: 0,
-        };
+        self.plain = Plain::fresh(Stage::Draft, plain.shape, plain.noted);
         Ok(())
     }
 }

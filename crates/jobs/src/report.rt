@@ -5,7 +5,7 @@ ghost use Rattle.jobs.specs.Planning.{buffer_rows, report_rows, verdict_of, list
 ghost use Rattle.jobs.specs.Standings.{standing, standing_of};
 
 use crate::answer::{Report, Verdict};
-use crate::cells::bar;
+use crate::cells::BAR;
 use crate::job::{Job, Plain};
 use crate::stage::{Call, Stage};
 use costs::Cost;
@@ -27,14 +27,14 @@ impl Plain {
 }
 
 // What a stage says of a setting that was found, or of none.
-fn verdict(stage: Stage, found: bool) -> Verdict
-    ensures { (incumbent : Maybe (List ℕ)) → is_some incumbent ≡ found → result ≡ verdict_of stage incumbent }
+fn verdict(stage: Stage, incumbent: &Option<Setting>) -> Verdict
+    ensures { (found : Maybe (List ℕ)) → is_some found ≡ is_some incumbent.now → result ≡ verdict_of stage found }
 {
-    match (stage == Stage::Ended, found) {
-        (true, true) => Verdict::Best,
-        (false, true) => Verdict::SoFar,
-        (true, false) => Verdict::NoneBelow,
-        (false, false) => Verdict::NothingYet,
+    match (stage, incumbent) {
+        (Stage::Ended, Some(_)) => Verdict::Best,
+        (Stage::Ended, None) => Verdict::NoneBelow,
+        (_, Some(_)) => Verdict::SoFar,
+        (_, None) => Verdict::NothingYet,
     }
 }
 
@@ -43,25 +43,8 @@ fn list(setting: &Setting, buffer: &mut [u8])
     requires few { length buffer.old ≤ 32 }
     ensures { buffer.new ≡ listed setting.now buffer.old }
 {
-    let mut variable = 0u8;
-    for place in buffer.iter_mut() {
-        *place = setting.value(variable);
-        variable += 1;
-    }
-}
-
-// What was found goes into the buffer; answers whether something was.
-fn list_found(found: &Option<Setting>, buffer: &mut [u8]) -> bool
-    requires few { length buffer.old ≤ 32 }
-    ensures some { result ≡ is_some found.now }
-    ensures buffer { buffer.new ≡ listing found.now buffer.old }
-{
-    match found {
-        Some(setting) => {
-            list(setting, buffer);
-            true
-        }
-        None => false,
+    for (variable, place) in buffer.iter_mut().enumerate() {
+        *place = setting.value(variable as u8);
     }
 }
 
@@ -73,19 +56,19 @@ impl<C: Cost, S: FloorSource<C>> Job<C, S> {
             (buffer.new ≡ buffer.old) }
     {
         let plain = self.plain;
-        plain.stage.takes(Call::Report)?;
-        plain.takes_area(area.len())?;
+        plain.takes(Call::Report, area.len())?;
         plain.takes_buffer(buffer.len())?;
         let incumbent = plain.place.incumbent();
-        let found = list_found(&incumbent, buffer);
+        if let Some(setting) = &incumbent {
+            list(setting, buffer);
+        }
         let empty = Prefix::empty();
         let bottom = self
             .source
             .floor(&plain.shape, &empty, area, plain.shape.used());
-        let cost = bar(area);
         Ok(Report {
-            verdict: verdict(plain.stage, found),
-            cost,
+            verdict: verdict(plain.stage, &incumbent),
+            cost: area[BAR],
             bottom,
             visits: plain.visits,
         })

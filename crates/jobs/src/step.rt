@@ -10,7 +10,7 @@ ghost use Rattle.jobs.specs.Planning.{step_rows, budget_rows, Steps};
 ghost use Rattle.jobs.specs.Standings.{standing, standing_of, stage_at, moved};
 
 use crate::answer::Stepped;
-use crate::cells::{bar, set_bar};
+use crate::cells::BAR;
 use crate::job::{Job, Plain};
 use crate::stage::{Call, Stage};
 use costs::Cost;
@@ -69,8 +69,7 @@ impl<C: Cost, S: FloorSource<C>> Job<C, S> {
             ((self.new ≡ self.old) × (area.new ≡ area.old)) }
     {
         let plain = self.plain;
-        plain.stage.takes(Call::Step)?;
-        plain.takes_area(area.len())?;
+        plain.takes(Call::Step, area.len())?;
         takes_budget(budget)?;
         if plain.stage == Stage::Ended {
             return Ok(Stepped {
@@ -80,10 +79,10 @@ impl<C: Cost, S: FloorSource<C>> Job<C, S> {
         }
         let mut search = Search {
             place: plain.place,
-            bar: bar(area),
+            bar: area[BAR],
         };
         let visits = search.run(&plain.shape, &self.source, area, plain.shape.used(), budget);
-        set_bar(area, search.bar);
+        area[BAR] = search.bar;
         let after = plain.after(search.place, visits);
         self.plain = after;
         Ok(Stepped {

@@ -29,6 +29,7 @@ pub(crate) fn pairs() -> [[Pair; 4]; 3] {
     ]
 }
 
+// Not shared with examples: only a public library crate could hold it, which is no plainer than these few lines; so too PAIRS and number.
 // One function more, with these costs of its four tuples.
 fn put<C: Cost, S>(
     job: &mut Job<C, S>,
@@ -37,8 +38,8 @@ fn put<C: Cost, S>(
     area: &mut [C],
 ) -> Result<(), Fail> {
     let number = job.enter(scope, C::neutral(), area)?;
-    for k in 0..4 {
-        job.amend(number, &PAIRS[k], table[k], area)?;
+    for (pair, cost) in PAIRS.iter().zip(&table) {
+        job.amend(number, pair, *cost, area)?;
     }
     Ok(())
 }

@@ -16,10 +16,10 @@ use Rattle.replay.specs.Model.{Model}
 use Rattle.replay.proofs.Agreements.{Agrees, agrees_there}
 
 draft_is : (stage : Stage) → is_draft stage ≡ true → stage ≡ Draft
-draft_is Closed h = absurd (grind (arith, h))
+draft_is Closed h = cc
 draft_is Draft h = refl
-draft_is Running h = absurd (grind (arith, h))
-draft_is Ended h = absurd (grind (arith, h))
+draft_is Running h = cc
+draft_is Ended h = cc
 
 pub draft_open : (stage : Stage) → is_draft stage ≡ true → is_closed stage ≡ false
 draft_open Closed h = sym h

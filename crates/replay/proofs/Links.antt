@@ -1,9 +1,8 @@
 -- The call's own promise, of the parts that were lent, is a link of the chain.
-use Rattle.std.proofs.Common.{◌≡◌, ℕ, ◌-◌, ◌≤◌, List, length, take, drop, None, Ok, vec_items, Result, Vec, sym, refl, ap, ◌∙◌, subst, arith, length-drop, length-take}
+use Rattle.std.proofs.Common.{◌≡◌, ℕ, ◌-◌, ◌≤◌, List, length, take, drop, None, vec_items, Result, Vec, sym, refl, ◌∙◌, arith, length-drop, length-take}
 use borrow.Rule.Slice.PartMut.{put_mid}
 use Rattle.std.specs.declared.alloc.Global.{Global}
 use Rattle.std.proofs.lemmas.List.{take_all}
-use Rattle.std.proofs.lemmas.Slice.{between-put_mid}
 use Rattle.std.proofs.lemmas.Bool.{not-false, eqb-true}
 use Rattle.costs.specs.Structures.{Structure}
 use Rattle.variables.specs.declared.refusal.Refusal.{Refusal}
@@ -16,11 +15,12 @@ use Rattle.jobs.specs.Standings.{standing}
 use Rattle.jobs.specs.Calls.{enter_rows, Entered, amend_rows, Amended}
 use Rattle.jobs.specs.Planning.{prepare_rows, Prepared, step_rows, Steps, report_rows, Reports}
 use Rattle.replay.specs.declared.calls.Part.{Part}
+use Rattle.replay.specs.declared.calls.Shown.{Shown}
 use Rattle.replay.specs.declared.calls.Call.TheVariants.{Enter, Amend, Prepare, Step, Report}
 use Rattle.replay.specs.declared.calls.Answer.{Answer}
 use Rattle.replay.specs.declared.calls.Answer.TheVariants.{Done, Entered as Numbered, Stepped as Moved, Reported as Told, Refused}
 use Rattle.replay.specs.Parts.{from, to, lent}
-use Rattle.replay.specs.Shows.{done, numbered, moved, told}
+use Rattle.replay.specs.Shows.{shown_of, done, numbered, moved}
 use Rattle.replay.specs.Chain.{World, Only, Link}
 use Rattle.replay.proofs.Accepted.{passed}
 use Rattle.replay.proofs.Puts.{lent_put, only_put}
@@ -46,17 +46,6 @@ module _ {C : Type 0} where
   moved_as (Moved s) r P e h = rw e h
   moved_as (Told x s) r P e h = e
   moved_as (Refused w) r P e h = rw e h
-
-  -- a buffer that was shown as far as there may be variables, and has no more places
-  told_as : (a : Answer C) (r : Result (Reported C) Refusal) (bytes : List ℕ) (P : Result (Reported C) Refusal → Type 0) → ((x : Reported C) → P (Ok x) → length bytes ≤ 32)
-      → told a (take 32 bytes) (λ x. x ≡ r) → P r → told a bytes P
-  told_as Done r bytes P few e h = e
-  told_as (Numbered k) r bytes P few e h = e
-  told_as (Moved s) r bytes P few e h = e
-  told_as (Told x s) r bytes P few e h =
-      let here : P (Ok x) = subst P (sym e.1) h in
-      (e.0 ∙ take_all 32 bytes (few x here), here)
-  told_as (Refused w) r bytes P few e h = rw e h
 
 -- where a part lies
 abbrev pub Spans : {X : Type 0} → Part → List X → ℕ → ℕ → Type 0
@@ -113,24 +102,15 @@ module _ {C S : Type 0} (K : Structure C) (R : Rules C S) (job : Job C S) (cells
       let sizes = job.plain.shape.sizes in
       omega (arith, same, length-take sizes.len sizes.sizes, sizes.few)
 
-  abbrev reported : List C → List ℕ → List ℕ → Result (Reported C) Refusal → Type 0
-  reported area buffer after r = Answers (first_of (report_rows (standing job) (length buffer) (length area))) r (Reports R K job area buffer after) (after ≡ buffer)
-
-  pub report_link : (a : Answer C) (r : Result (Reported C) Refusal) → told a (take 32 (take (f - j) (drop j (put_mid j (f - j) bytes buffer')))) (λ x. x ≡ r)
-      → Answers (first_of (report_rows (standing job) (length (take (f - j) (drop j bytes))) (length (take (e - i) (drop i cells))))) r
-      (Reports R K job (take (e - i) (drop i cells)) (take (f - j) (drop j bytes)) buffer') (buffer' ≡ take (f - j) (drop j bytes))
-      → Link K R (record { job = job; cells = cells; bytes = bytes }) (Report q p) a (record { job = job; cells = cells; bytes = put_mid j (f - j) bytes buffer' })
-  report_link a r is h =
-      let all = put_mid j (f - j) bytes buffer' in
-      let seen : lent q all ≡ buffer' = lent_put q bytes buffer' j f t.0 t.1 t.2 t.3 long in
-      let same : take (f - j) (drop j all) ≡ lent q all = between-put_mid j (f - j) bytes buffer' f (omega arith) long ∙ sym seen in
+  -- a report that was accepted, with what its buffer holds
+  pub report_link : (x : Reported C) (shown : Shown) → shown_of shown ≡ take 32 buffer'
+      → (first_of (report_rows (standing job) (length (take (f - j) (drop j bytes))) (length (take (e - i) (drop i cells)))) ≡ None)
+      × Reports R K job (take (e - i) (drop i cells)) (take (f - j) (drop j bytes)) buffer' x
+      → Link K R (record { job = job; cells = cells; bytes = bytes }) (Report q p) (Told x shown) (record { job = job; cells = cells; bytes = put_mid j (f - j) bytes buffer' })
+  report_link x shown is h =
+      let seen : lent q (put_mid j (f - j) bytes buffer') ≡ buffer' = lent_put q bytes buffer' j f t.0 t.1 t.2 t.3 long in
       let there : length (lent q bytes) ≡ f - j = lent_so q bytes bytes j f t (λ u. length u ≡ f - j) (simp (length-take, length-drop) (omega arith)) in
-      let at = put_so q bytes buffer' j f t long (λ u v. reported (lent p cells) u v r)
-      (lent_so p cells cells i e s (λ w. reported w (take (f - j) (drop j bytes)) buffer' r) h) in (
-        told_as a r (lent q all) (reported (lent p cells) (lent q bytes) (lent q all))
-            (λ x g. omega (arith, few_places (length (lent q bytes)) (length (lent p cells)) g.0, there, ap length seen, long))
-            (subst (λ (xs : List ℕ). told a (take 32 xs) (λ x. x ≡ r)) same is) at,
-        refl,
-        refl,
-        only_put q bytes buffer' j f t.0 t.1 t.2 t.3 long,
-      )
+      let at = put_so q bytes buffer' j f t long (λ u v. (first_of (report_rows (standing job) (length u) (length (lent p cells))) ≡ None) × Reports R K job (lent p cells) u v x)
+      (lent_so p cells cells i e s (λ w. (first_of (report_rows (standing job) (length (take (f - j) (drop j bytes))) (length w)) ≡ None) × Reports R K job w (take (f - j) (drop j bytes)) buffer' x) h) in
+      let few : length buffer' ≤ 32 = omega (arith, few_places (length (lent q bytes)) (length (lent p cells)) at.0, there, long) in
+      ((is ∙ take_all 32 buffer' few ∙ sym seen, at), refl, refl, only_put q bytes buffer' j f t.0 t.1 t.2 t.3 long)

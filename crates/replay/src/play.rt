@@ -3,7 +3,7 @@ ghost use Rattle.replay.specs.Chain.{Link, Run};
 ghost use Rattle.replay.specs.Promise.{Promise};
 ghost use Rattle.std.specs.Prelude.{IfOk};
 
-use crate::calls::{Answer, Call};
+use crate::calls::{Answer, Call, Shown};
 use costs::Cost;
 use floors::source::FloorSource;
 use jobs::job::Job;
@@ -21,40 +21,33 @@ fn perform<C: Cost, S: FloorSource<C>>(
         call.now result
         (record { job = job.exit.now; cells = cells.new; bytes = bytes.new }) }
 {
+    let count = cells.len();
     match call {
-        Call::Open { sizes, area } => {
-            let (i, e) = area.span(cells.len());
-            Answer::of_done(job.open(sizes.as_slice(), &cells[i..e]))
-        }
-        Call::Enter { scope, cost, area } => {
-            let (i, e) = area.span(cells.len());
-            Answer::of_entered(job.enter(scope.as_slice(), *cost, &mut cells[i..e]))
-        }
+        Call::Open { sizes, area } => job.open(sizes, &cells[area.range(count)]).into(),
+        Call::Enter { scope, cost, area } => job
+            .enter(scope, *cost, &mut cells[area.range(count)])
+            .into(),
         Call::Amend {
             function,
             tuple,
             cost,
             area,
-        } => {
-            let (i, e) = area.span(cells.len());
-            Answer::of_done(job.amend(*function, tuple.as_slice(), *cost, &mut cells[i..e]))
-        }
-        Call::Prepare { order, limit, area } => {
-            let (i, e) = area.span(cells.len());
-            Answer::of_done(job.prepare(order.as_slice(), *limit, &mut cells[i..e]))
-        }
-        Call::Step { budget, area } => {
-            let (i, e) = area.span(cells.len());
-            Answer::of_stepped(job.step(*budget, &mut cells[i..e]))
-        }
+        } => job
+            .amend(*function, tuple, *cost, &mut cells[area.range(count)])
+            .into(),
+        Call::Prepare { order, limit, area } => job
+            .prepare(order, *limit, &mut cells[area.range(count)])
+            .into(),
+        Call::Step { budget, area } => job.step(*budget, &mut cells[area.range(count)]).into(),
         Call::Report { buffer, area } => {
-            let (i, e) = area.span(cells.len());
-            let lent = &cells[i..e];
-            let (j, f) = buffer.span(bytes.len());
-            let report = job.report(&mut bytes[j..f], lent);
-            Answer::of_reported(report, &bytes[j..f])
+            let place = buffer.range(bytes.len());
+            let shown = &mut bytes[place];
+            match job.report(shown, &cells[area.range(count)]) {
+                Ok(report) => Answer::Reported(report, Shown::of(shown)),
+                Err(refusal) => Answer::Refused(refusal),
+            }
         }
-        Call::Reopen => Answer::of_done(job.reopen()),
+        Call::Reopen => job.reopen().into(),
         Call::Close => {
             job.close();
             Answer::Done

@@ -5,5 +5,5 @@ use Rattle.floors.specs.Settings.{upto}
 use Rattle.jobs.proofs.report.list.Given as goal
 
 -- the places so far hold the values of the first variables
-abbrev pub invariant-loop-place : goal.invariant-loop-place
-invariant-loop-place l = (l.variable ≡ l.place-index) × (l.buffer ≡ map (of (values_of l.setting)) (upto 0 l.place-index) ++ drop l.place-index l.initial.buffer)
+abbrev pub invariant-loop-variable : goal.invariant-loop-variable
+invariant-loop-variable l = l.buffer ≡ map (of (values_of l.setting)) (upto 0 l.variable) ++ drop l.variable l.initial.buffer
