@@ -9,7 +9,6 @@ folded K acc [] = acc
 folded K acc (c ∷ cs) = folded K (K.combined acc c) cs
 
 module _ {C : Type 0} (K : Structure C) (L : Lawful K) where
-
   folded_on : (a b : C) (cs : List C) → folded K (K.combined a b) cs ≡ K.combined a (K.combined b (total K cs))
   folded_on a b [] =
       sym (L.combined_stands a b) ∙ sym (L.unit (K.combined a b)) ∙ L.commutative K.neutral (K.combined a b) ∙ L.associative a b K.neutral

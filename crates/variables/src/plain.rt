@@ -6,6 +6,7 @@ ghost use Rattle.variables.specs.Lists.{distinct};
 use lists::ShortList;
 
 // Domain sizes by variable number; past the last variable they are 0.
+// Not a ShortList: every cost of a function reads the sizes without a test, past the last one too.
 #[derive(Clone, Copy)]
 pub struct Sizes {
     pub(crate) sizes: [u8; 32],
@@ -49,6 +50,7 @@ pub struct Prefix {
 }
 
 // The variables that a function reads, none of them twice.
+// Not a ShortList: with its length in one byte the record of a function takes 16 bytes, and all records are copied with each call.
 #[derive(Clone, Copy)]
 pub struct Scope {
     pub(crate) len: u8,
