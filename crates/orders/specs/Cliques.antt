@@ -1,5 +1,5 @@
 -- Which variables are joined, and what it joins to eliminate one.
-use Rattle.std.specs.Prelude.{ℕ, ◌+◌, Bool, cond, not, ◌&&◌, List, [], ◌∷◌, map, filter, count_by, Some, None, Option, ◌==◌, nat_lt, slice_index}
+use Rattle.std.specs.Prelude.{ℕ, ◌+◌, Bool, cond, not, ◌&&◌, List, [], ◌∷◌, map, filter, count_by, ◌==◌, nat_lt, slice_index}
 use Rattle.std.specs.List.{list_any}
 use Rattle.variables.specs.Lists.{has}
 use Rattle.problems.specs.Records.{Placed}
@@ -45,8 +45,3 @@ others us v = filter (λ u. not (u == v)) us
 -- every scope is a clique
 abbrev pub scopes : List Placed → List (List ℕ)
 scopes fs = map (λ (f : Placed). f.scope) fs
-
--- a function's variables, none where there is no such function
-abbrev pub scope_or_none : Option Placed → List ℕ
-scope_or_none None = []
-scope_or_none (Some f) = f.scope

@@ -1,19 +1,17 @@
 // Cliques: groups of variables that are joined with one another.
 ghost use Rattle.std.specs.Prelude.{◌≡◌, map, IfOk, vec_items};
 ghost use Rattle.problems.specs.Outlines.{outline};
-ghost use Rattle.problems.specs.Records.{nth};
-ghost use Rattle.orders.specs.Cliques.{scopes, scope_or_none};
+ghost use Rattle.variables.specs.Records.{scope_of};
+ghost use Rattle.orders.specs.Cliques.{scopes};
 
+use problems::functions::FunctionRecord;
 use problems::shape::Shape;
 use std::alloc::{AllocError, Global};
 
-// The variables of function k, none where there is no such function.
-fn scope(heap: Global, shape: &Shape, k: usize) -> Result<Vec<u8>, AllocError>
-    ensures { IfOk result (λ us. us.items ≡ scope_or_none (nth (outline shape.now).functions k)) }
+// The variables of a function.
+fn scope(heap: Global, function: &FunctionRecord) -> Result<Vec<u8>, AllocError>
+    ensures { IfOk result (λ us. us.items ≡ scope_of function.now.scope) }
 {
-    let Some(function) = shape.function(k) else {
-        return Ok(Vec::new(heap));
-    };
     Vec::from_slice(heap, function.scope().variables())
 }
 
@@ -22,8 +20,8 @@ pub(crate) fn scopes(heap: Global, shape: &Shape) -> Result<Vec<Vec<u8>>, AllocE
     ensures { IfOk result (λ cs. map vec_items cs.items ≡ scopes (outline shape.now).functions) }
 {
     let mut all = Vec::new(heap);
-    for k in 0..shape.function_count() {
-        all.push(scope(heap, shape, k)?)?;
+    for function in shape.functions() {
+        all.push(scope(heap, function)?)?;
     }
     Ok(all)
 }

@@ -19,9 +19,7 @@ use Rattle.jobs.specs.Standings.{Standing, standing, closed, Stands}
 use Rattle.jobs.specs.Loading.{load_outcome}
 use Rattle.pages.specs.Lines.{job_line, verdict_line}
 use Rattle.pages.specs.Records.{record_lines, record_page, PricedAt}
-use Rattle.pages.specs.Pages.{function_lines, cost_page, Given, Priced}
-use Rattle.pages.specs.declared.pricing.Failure.{Failure}
-use Rattle.pages.specs.declared.pricing.Failure.TheVariants.{Memory, Refused, Values, Value}
+use Rattle.pages.specs.Pages.{function_lines, cost_page}
 use Rattle.pages.proofs.Listings.{lines_there}
 
 -- a new job takes a text

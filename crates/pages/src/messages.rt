@@ -1,7 +1,7 @@
 // The messages and the bottom of a mini-bucket source.
-ghost use Rattle.std.specs.Prelude.{◌≡◌, ◌≤◌, ◌&&◌, ◌++◌, length, OnOk, nat_le};
+ghost use Rattle.std.specs.Prelude.{◌≡◌, ◌≤◌, ◌&&◌, ◌++◌, length, OnOk, Some, nat_le};
 ghost use Rattle.problems.specs.Outlines.{outline};
-ghost use Rattle.problems.specs.Records.{nth};
+ghost use Rattle.problems.specs.Records.{placed_of};
 ghost use Rattle.variables.specs.Records.{sizes_of};
 ghost use Rattle.floors.specs.Rules.{frame};
 ghost use Rattle.buckets.specs.Sources.{messages};
@@ -14,6 +14,7 @@ use buckets::mini_bucket::MiniBucket;
 use floors::source::FloorSource;
 use orders::min_fill::min_fill;
 use orders::natural::natural;
+use problems::records::MessageRecord;
 use problems::shape::{MOST_CELLS, Shape};
 use std::alloc::{AllocError, Global};
 use variables::prefix::Prefix;
@@ -103,20 +104,17 @@ fn filled<S: FloorSource<u32>>(
     Ok(room)
 }
 
-// The line of message k, if there is one.
+// The line of message k.
 fn kept_line(
     page: &mut Page,
     k: usize,
-    source: &MiniBucket,
+    message: &MessageRecord,
     sizes: &Sizes,
     area: &[u32],
 ) -> Result<(), AllocError>
     ensures { OnOk result (page.new.bytes.items ≡ page.old.bytes.items
-        ++ kept_line (sizes_of sizes.now) area.now k (nth (messages source.now) k)) }
+        ++ kept_line (sizes_of sizes.now) area.now k (Some (placed_of message.now))) }
 {
-    let Some(message) = source.message(k) else {
-        return Ok(());
-    };
     let scope = message.scope();
     let start = message.start().min(area.len());
     let end = start
@@ -135,8 +133,8 @@ fn kept_lines(
     ensures { OnOk result (page.new.bytes.items ≡ page.old.bytes.items
         ++ kept_lines (sizes_of sizes.now) area.now 0 (messages source.now)) }
 {
-    for k in 0..source.message_count() {
-        kept_line(page, k, source, sizes, area)?;
+    for (k, message) in source.messages().iter().enumerate() {
+        kept_line(page, k, message, sizes, area)?;
     }
     Ok(())
 }

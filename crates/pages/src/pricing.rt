@@ -1,9 +1,9 @@
 // The cost of one full setting of a job, function by function.
-ghost use Rattle.std.specs.Prelude.{◌≡◌, ℕ, ◌++◌, length, IfOk, OnOk};
+ghost use Rattle.std.specs.Prelude.{◌≡◌, ℕ, ◌++◌, length, IfOk, OnOk, Some};
 ghost use Rattle.problems.specs.Outlines.{outline};
 ghost use Rattle.variables.specs.Assignments.{of};
-ghost use Rattle.variables.specs.Records.{values_of};
-ghost use Rattle.problems.specs.Records.{nth};
+ghost use Rattle.variables.specs.Records.{sizes_of, values_of};
+ghost use Rattle.problems.specs.Records.{placed_of};
 ghost use Rattle.pages.specs.declared.pricing.Failure.TheVariants.{Memory, Refused};
 ghost use Rattle.pages.specs.Records.{record_line, record_lines, record_page, PricedAt};
 ghost use Rattle.wcsp.specs.Loads.{loading};
@@ -11,9 +11,12 @@ ghost use Rattle.pages.specs.Pages.{Priced, Given, failure};
 
 use crate::lines::Page;
 use jobs::job::Job;
+pub use jobs::job::NoFloors;
+use problems::functions::FunctionRecord;
 use problems::shape::{MOST_CELLS, Shape};
 use std::alloc::{AllocError, Global};
 use variables::setting::{Misfit, Setting};
+use variables::sizes::Sizes;
 use wcsp::load::name;
 use words::fault::Fault;
 
@@ -48,25 +51,19 @@ impl From<Fault> for Failure {
     }
 }
 
-// No source of floors: a job that is only priced asks none.
-#[derive(Drop)]
-pub struct NoFloors {}
-
-// The line of function k, if there is one.
+// The line of function k.
 fn record_line(
     page: &mut Page,
     k: usize,
-    shape: &Shape,
+    function: &FunctionRecord,
+    sizes: &Sizes,
     setting: &Setting,
     area: &[u32],
 ) -> Result<(), AllocError>
     ensures { OnOk result (page.new.bytes.items ≡ page.old.bytes.items
-        ++ record_line (outline shape.now).sizes area.now (of (values_of setting.now)) k (nth (outline shape.now).functions k)) }
+        ++ record_line (sizes_of sizes.now) area.now (of (values_of setting.now)) k (Some (placed_of function.now))) }
 {
-    let Some(function) = shape.function(k) else {
-        return Ok(());
-    };
-    let cost = function.cost(&shape.sizes(), setting, area);
+    let cost = function.cost(sizes, setting, area);
     page.function_line(k, function.scope().variables(), cost)
 }
 
@@ -80,8 +77,8 @@ fn record_lines(
     ensures { OnOk result (page.new.bytes.items ≡ page.old.bytes.items
         ++ record_lines (outline shape.now).sizes area.now (of (values_of setting.now)) 0 (outline shape.now).functions) }
 {
-    for k in 0..shape.function_count() {
-        record_line(page, k, shape, setting, area)?;
+    for (k, function) in shape.functions().iter().enumerate() {
+        record_line(page, k, function, shape.domains(), setting, area)?;
     }
     Ok(())
 }
@@ -130,7 +127,7 @@ fn page_of(
 fn priced_in(area: &mut [u32], heap: Global, text: &[u8], values: &[u8]) -> Result<Vec<u8>, Failure>
     ensures { Priced (loading text.now (length area.old)) (length area.old) values.now result }
 {
-    let mut job = Job::new(NoFloors {});
+    let mut job = Job::new(NoFloors);
     let upper = job.load(text, area)?;
     let shape = job.shape();
     let setting = setting_of(values, &shape)?;

@@ -47,6 +47,7 @@ pub enum Call<C> {
 }
 
 // What a report's buffer holds after it, by variable number.
+// Not a ShortList: the buffer is copied at once, and not value by value.
 #[derive(Clone, Copy)]
 pub struct Shown {
     pub(crate) values: [u8; 32],

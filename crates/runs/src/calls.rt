@@ -1,14 +1,10 @@
 // The calls that a script's lines ask for.
 use crate::lending::lent;
 use costs::Cost;
-use jobs::job::Job;
+use jobs::job::{Job, NoFloors};
 use replay::calls::{Call, Part};
 use scripts::script::Request;
 use std::alloc::{AllocError, Global};
-
-// No source of floors: a job that is only opened and closed asks none.
-#[derive(Drop)]
-struct NoFloors {}
 
 // What the last accepted open brought: its area, and how many variables. Before there was one, area 0 and none.
 #[derive(Clone, Copy)]
@@ -107,7 +103,7 @@ pub(crate) fn calls_of<C: Cost + Drop>(
     parts: &[Part],
     cells: &[C],
 ) -> Result<Vec<Call<C>>, AllocError> {
-    let mut job = Job::new(NoFloors {});
+    let mut job = Job::new(NoFloors);
     let mut opened = Opened::none(parts);
     let mut calls = Vec::new(heap);
     for request in requests {

@@ -1,6 +1,0 @@
-use Rattle.std.proofs.Common.{arith}
-use Rattle.std.proofs.lemmas.Grind.{common_steps}
-use Rattle.pages.proofs.messages.kept_line.Goals as goal
-
-pub returns : goal.returns
-returns c = grind (arith, common_steps)
