@@ -28,6 +28,7 @@ fn tuple(scope: &Scope, sizes: &Sizes, cell: usize) -> Setting
     let variables = scope.variables();
     let mut setting = Setting::empty();
     let mut left = cell;
+    // Not an iterator from the last variable back: the proof goes by how much of the scope is left, which it hides.
     for k in (0..variables.len()).rev() {
         let size = sizes.size(variables[k]) as usize;
         setting.give(variables[k], (left % size) as u8);
@@ -71,6 +72,7 @@ pub(crate) fn write<C: Cost>(
         ++ (tabulate (sizes_of sizes.now) (scope_of scope.now) (eliminated C.Cost.structure (sizes_of sizes.now) variable (map (function_in (sizes_of sizes.now) area.old) (listed members.now))) (λ u. 0)
         ++ drop (start + cells (sizes_of sizes.now) (scope_of scope.now)) area.old) }
 {
+    // Not an iterator over the new cells: the functions are read from the same area while it is written.
     for k in 0..scope.table_cells(sizes) {
         let setting = tuple(scope, sizes, k);
         let cost = least(members, sizes, variable, &setting, area);
