@@ -25,13 +25,11 @@ fn tuple(scope: &Scope, sizes: &Sizes, cell: usize) -> Setting
     ensures ranged { (v : ℕ) → has (scope_of scope.now) v ≡ true → of (values_of result) v < slice_index (sizes_of sizes.now) v }
     ensures others { (v : ℕ) → has (scope_of scope.now) v ≡ false → of (values_of result) v ≡ 0 }
 {
-    let variables = scope.variables();
     let mut setting = Setting::empty();
     let mut left = cell;
-    // Not an iterator from the last variable back: the proof goes by how much of the scope is left, which it hides.
-    for k in (0..variables.len()).rev() {
-        let size = sizes.size(variables[k]) as usize;
-        setting.give(variables[k], (left % size) as u8);
+    for v in scope.variables().iter().rev() {
+        let size = sizes.size(*v) as usize;
+        setting.give(*v, (left % size) as u8);
         left /= size;
     }
     setting
