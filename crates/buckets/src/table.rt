@@ -70,7 +70,7 @@ pub(crate) fn write<C: Cost>(
         ++ (tabulate (sizes_of sizes.now) (scope_of scope.now) (eliminated C.Cost.structure (sizes_of sizes.now) variable (map (function_in (sizes_of sizes.now) area.old) (listed members.now))) (λ u. 0)
         ++ drop (start + cells (sizes_of sizes.now) (scope_of scope.now)) area.old) }
 {
-    // Not an iterator over the new cells: the functions are read from the same area while it is written.
+    // Not iter_mut: the area would be split first, for the functions are read from it, and the cell's number is wanted all the same.
     for k in 0..scope.table_cells(sizes) {
         let setting = tuple(scope, sizes, k);
         let cost = least(members, sizes, variable, &setting, area);
