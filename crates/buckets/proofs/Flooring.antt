@@ -3,7 +3,6 @@ use Rattle.std.proofs.Common.{◌≡◌, ℕ, zero, suc, ◌+◌, ◌-◌, ◌<�
 use Rattle.std.specs.List.{AllByRecursion}
 use Rattle.std.proofs.lemmas.List.{length-map, length-append, map-append, take-map, length-take-le}
 use Rattle.costs.specs.Structures.{Structure, Lawful, total}
-use Rattle.costs.proofs.Totals.{folded, folded_total}
 use Rattle.variables.specs.Lists.{has}
 use Rattle.variables.specs.Assignments.{of, along}
 use Rattle.problems.specs.Problems.{Function}
@@ -12,12 +11,12 @@ use Rattle.problems.specs.Outlines.{Outline, problem}
 use Rattle.floors.specs.Settings.{kept, costs_at, Formed, Fits}
 use Rattle.floors.specs.MiniBuckets.{split_from, mini_bucket_floor}
 use Rattle.floors.specs.ByNumber.{bucket_of, lies_in, bucket_messages}
-use Rattle.floors.specs.Sources.{bucket_in}
+use Rattle.floors.specs.Sources.{bucket_in, picked}
 use Rattle.floors.specs.Shapes.{shaped}
 use Rattle.floors.specs.Scopes.{Within, within_append}
 use Rattle.floors.specs.Covers.{covered}
 use Rattle.floors.specs.Eliminations.{messages_within}
-use Rattle.floors.proofs.Pickings.{picked, noted_picked}
+use Rattle.floors.proofs.Pickings.{noted_picked}
 use Rattle.floors.proofs.Paids.{given, given_length, kept_along}
 use Rattle.buckets.specs.declared.plain.MiniBucket.{MiniBucket}
 use Rattle.buckets.specs.Listed.{listed}
@@ -102,22 +101,21 @@ module _ {C : Type 0} (K : Structure C) (L : Lawful K) (o : Outline) (area : Lis
       (ap (map (function_in o.sizes area)) (sym front) ∙ sym (take-map (function_in o.sizes area) (length (Placeds k)) (Placeds N))
       ∙ ap₂ (λ (m : ℕ) (l : List (Function C)). take m l) made_length notes.tables ∙ made_front L o.sizes o.order w FS k N (omega arith))
 
-  noted : (j : ℕ) → j < length reached → get_or s.lying.places j 0 ≡ bucket_in o.order (nth reached j)
+  noted : (j : ℕ) → j < length reached → get_or s.buckets.places j 0 ≡ bucket_in o.order (nth reached j)
   noted j h =
       let r = s.made.records in
       let few : length reached ≡ reach = length-take-le reach (listed r) (omega (arith, inside, listed_length r)) in
       notes.buckets j (omega (arith, listed_length r, inside))
       ∙ ap (λ (f : Option Placed). bucket_in o.order f) (sym (nth_take reach (listed r) j (omega arith)))
 
-  pub mini_told : folded K K.neutral (map (held K o.sizes area (of values)) (picked s.lying.places n 0 reached)) ≡ mini_bucket_floor K w (problem o area) (given K L o area formed values n le)
+  pub mini_told : total K (map (held K o.sizes area (of values)) (picked s.buckets.places n 0 reached)) ≡ mini_bucket_floor K w (problem o area) (given K L o area formed values n le)
   mini_told =
       let p = problem o area in
       let x = given K L o area formed values n le in
       let within : Within (λ v. has o.order v ≡ true) (map (function_in o.sizes area) reached) =
       subst (Within (λ v. has o.order v ≡ true)) (sym functions_are) (within_append (λ v. has o.order v ≡ true) FS (bucket_made K o.sizes o.order w FS k) (covered p (shaped p formed)) (made_within L o.sizes o.order w FS k)) in
       let long : length x ≡ n = given_length K L o area formed values n le in
-      folded_total K L (map (held K o.sizes area (of values)) (picked s.lying.places n 0 reached))
-      ∙ ap (λ (fs : List Placed). total K (map (held K o.sizes area (of values)) fs)) (noted_picked o.order s.lying.places n reached noted)
+      ap (λ (fs : List Placed). total K (map (held K o.sizes area (of values)) fs)) (noted_picked o.order s.buckets.places n reached noted)
       ∙ kept_along K L o area formed values n le fits reached within
       ∙ ap (λ (l : List (Function C)). costs_at K o.sizes (along o.order x) (kept (λ (f : Function C). leb (bucket_of o.order f.scope) n) l)) functions_are
       ∙ ap (λ m. costs_at K o.sizes (along o.order x) (kept (λ (f : Function C). leb (bucket_of o.order f.scope) m) (FS ++ bucket_made K o.sizes o.order w FS (N - m)))) (sym long)

@@ -1,7 +1,7 @@
 -- A cell's tuple, variable by variable from the last.
-use Rattle.std.proofs.Common.{◌≡◌, ℕ, zero, suc, ◌+◌, ◌-◌, ◌*◌, ◌/◌, ◌%◌, ◌<◌, ◌≤◌, true, false, cond, not, ◌||◌, eqb, List, [], ◌∷◌, length, get_or, drop, set, sym, ap, ◌∙◌, ap₂, inl, inr, mod-lt, suc-mul, mul-zero, div-add-mod', zero-mul, add-one, arith}
+use Rattle.std.proofs.Common.{◌≡◌, ℕ, zero, suc, ◌+◌, ◌-◌, ◌*◌, ◌/◌, ◌%◌, ◌<◌, ◌≤◌, true, false, cond, not, ◌||◌, eqb, List, [], ◌∷◌, ◌++◌, length, get_or, take, drop, set, sym, refl, ap, ◌∙◌, ap₂, inl, inr, mod-lt, suc-mul, mul-zero, div-add-mod', zero-mul, add-one, arith}
 use mathlib.Core.Path.{fun_ext}
-use Rattle.std.proofs.lemmas.List.{drop_more, get_or-set_same, get_or-set_other}
+use Rattle.std.proofs.lemmas.List.{drop_more, get_or_push, get_or-take, length_push, take_at, take-take, get_or-set_same, get_or-set_other}
 use Rattle.std.proofs.lemmas.Bool.{cases_Bool, cases_eq, eqb-true, eq-eqb, ne_eqb, and_parts, not-true, both_ways}
 use Rattle.variables.specs.Lists.{has, distinct}
 use Rattle.variables.specs.Assignments.{Assignment, of, cells, cell_from}
@@ -109,3 +109,16 @@ module _ (sizes scope items : List ℕ) (e : items ≡ scope) (apart : distinct 
       ap (λ (l : List ℕ). get_or l v 0) same_after
       ∙ get_or-set_other values (get_or scope (k - 1) 0) v (left % get_or sizes (get_or scope (k - 1) 0) 0) 0 (λ e. both_ways (has scope v) h (ap (has scope) e ∙ getD_has scope (k - 1) inside))
       ∙ before v h
+
+-- the variables still to come, seen from the end: those before one more step back
+module _ (scope rest rest' : List ℕ) (v : ℕ) (front : rest ≡ take (length rest) scope) (few : length rest ≤ length scope) (step : rest ≡ rest' ++ v ∷ []) where
+  pub back_length : length rest ≡ length rest' + 1
+  back_length = ap length step ∙ length_push rest' v
+
+  pub back_value : v ≡ get_or scope (length rest - 1) 0
+  back_value =
+      let last : length rest' ≡ length rest - 1 = omega (arith, back_length) in
+      sym (get_or_push rest' v 0 (length rest - 1) last) ∙ ap (λ (xs : List ℕ). get_or xs (length rest - 1) 0) (sym step ∙ front) ∙ get_or-take (length rest) scope (length rest - 1) 0 (omega (arith, back_length))
+
+  pub back_front : rest' ≡ take (length rest') scope
+  back_front = sym (take_at rest' (v ∷ []) (length rest') refl) ∙ ap (take (length rest')) (sym step ∙ front) ∙ take-take (length rest') (length rest) scope (omega (arith, back_length))

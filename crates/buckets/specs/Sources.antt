@@ -40,7 +40,7 @@ pub record Kept {C : Type 0} (K : Structure C) (s : MiniBucket) (o : Outline) (a
   pub records : listed s.made.records ≡ o.functions ++ all_placed s.width o at
   pub tables : map (function_in o.sizes area) (all_placed s.width o at) ≡ bucket_made K o.sizes o.order s.width (problem o area).functions (length o.order)
   pub reach : (p : ℕ) → p ≤ length o.order → slice_index s.made.reach p ≡ length o.functions + length (scopes_made o.order s.width (scopes_of o.functions) (length o.order - p))
-  pub buckets : (k : ℕ) → k < length (listed s.made.records) → slice_index s.lying.places k ≡ bucket_in o.order (nth (listed s.made.records) k)
+  pub buckets : (k : ℕ) → k < length (listed s.made.records) → slice_index s.buckets.places k ≡ bucket_in o.order (nth (listed s.made.records) k)
 
 abbrev pub mini_bucket_rules : {C : Type 0} → Structure C → Rules C MiniBucket
 mini_bucket_rules K = record {

@@ -34,8 +34,8 @@ pub(crate) fn count_bucket(plan: &Plan, records: &mut Records, p: usize) -> usiz
     cells
 }
 
-// Not one function with the counting above and a closure for the step: it would lend records and area through the closure, and say both contracts again.
 // Files the messages of the bucket of the p-th variable from 0 and writes their tables from `end` on; answers where they end.
+// Not one function with the counting above and a closure for the step: it would lend records and area through the closure, and say both contracts again.
 pub(crate) fn fill_bucket<C: Cost>(
     plan: &Plan,
     records: &mut Records,

@@ -24,7 +24,7 @@ impl MiniBucket {
         ensures entered { result.entered ≡ 0 }
         ensures records { listed result.made.records ≡ [] }
         ensures reach { (p : ℕ) → slice_index result.made.reach p ≡ 0 }
-        ensures buckets { (k : ℕ) → slice_index result.lying.places k ≡ 0 }
+        ensures buckets { (k : ℕ) → slice_index result.buckets.places k ≡ 0 }
     {
         MiniBucket {
             width,
@@ -33,7 +33,7 @@ impl MiniBucket {
                 records: Records::none(),
                 reach: [0; 33],
             },
-            lying: Places::none(),
+            buckets: Places::none(),
         }
     }
 
@@ -114,20 +114,14 @@ impl<C: Cost> FloorSource<C> for MiniBucket {
             width,
             entered: functions.len(),
             made,
-            lying: Places::of_records(&plan.order, made.records.as_slice()),
+            buckets: Places::of_records(&plan.order, made.records.as_slice()),
         };
     }
 
     fn floor(&self, shape: &Shape, prefix: &Prefix, area: &[C], _at: usize) -> C {
         let len = prefix.len();
         let records = &self.made.records.as_slice()[..self.made.reach[len]];
-        let buckets = self.lying.as_slice();
-        let mut sum = C::neutral();
-        for (k, record) in records.iter().enumerate() {
-            if buckets[k] as usize <= len {
-                sum = sum.combine(record.cost(shape.domains(), prefix.values(), area));
-            }
-        }
-        sum
+        self.buckets
+            .cost_up_to(len, records, shape.domains(), prefix.values(), area)
     }
 }

@@ -54,5 +54,5 @@ pub struct MiniBucket {
     pub(crate) width: u8,
     pub(crate) entered: usize,
     pub(crate) made: Made,
-    pub(crate) lying: Places<MOST_RECORDS>,
+    pub(crate) buckets: Places<MOST_RECORDS>,
 }

@@ -25,13 +25,11 @@ fn tuple(scope: &Scope, sizes: &Sizes, cell: usize) -> Setting
     ensures ranged { (v : ℕ) → has (scope_of scope.now) v ≡ true → of (values_of result) v < slice_index (sizes_of sizes.now) v }
     ensures others { (v : ℕ) → has (scope_of scope.now) v ≡ false → of (values_of result) v ≡ 0 }
 {
-    let variables = scope.variables();
     let mut setting = Setting::empty();
     let mut left = cell;
-    // Not an iterator from the last variable back: the proof goes by how much of the scope is left, which it hides.
-    for k in (0..variables.len()).rev() {
-        let size = sizes.size(variables[k]) as usize;
-        setting.give(variables[k], (left % size) as u8);
+    for v in scope.variables().iter().rev() {
+        let size = sizes.size(*v) as usize;
+        setting.give(*v, (left % size) as u8);
         left /= size;
     }
     setting
@@ -72,7 +70,7 @@ pub(crate) fn write<C: Cost>(
         ++ (tabulate (sizes_of sizes.now) (scope_of scope.now) (eliminated C.Cost.structure (sizes_of sizes.now) variable (map (function_in (sizes_of sizes.now) area.old) (listed members.now))) (λ u. 0)
         ++ drop (start + cells (sizes_of sizes.now) (scope_of scope.now)) area.old) }
 {
-    // Not an iterator over the new cells: the functions are read from the same area while it is written.
+    // Not iter_mut: the area would be split first, for the functions are read from it, and the cell's number is wanted all the same.
     for k in 0..scope.table_cells(sizes) {
         let setting = tuple(scope, sizes, k);
         let cost = least(members, sizes, variable, &setting, area);

@@ -3,7 +3,6 @@ use Rattle.std.proofs.Common.{◌≡◌, ℕ, ◌<◌, ◌≤◌, true, leb, Lis
 use Rattle.std.proofs.lemmas.List.{length-map, length-take-le, take-map}
 use Rattle.std.proofs.lemmas.Bool.{cases_Bool}
 use Rattle.costs.specs.Structures.{Structure, Lawful, total}
-use Rattle.costs.proofs.Totals.{folded, folded_total}
 use Rattle.variables.specs.Lists.{has}
 use Rattle.variables.specs.Assignments.{of, along}
 use Rattle.problems.specs.Problems.{Function, cost_at}
@@ -13,14 +12,14 @@ use Rattle.problems.proofs.Bounds.{held_there}
 use Rattle.floors.specs.Settings.{kept, costs_at, Formed, Fits}
 use Rattle.floors.specs.Floors.{paid_floor}
 use Rattle.floors.specs.ByNumber.{bucket_of}
-use Rattle.floors.specs.Sources.{bucket_in}
+use Rattle.floors.specs.Sources.{bucket_in, picked}
 use Rattle.floors.specs.Shapes.{shaped}
 use Rattle.floors.specs.Scopes.{along_take, cost_agree, Within, within_head, within_tail}
 use Rattle.floors.specs.SettingsLemmas.{along_ranged}
 use Rattle.floors.specs.Covers.{covered}
 use Rattle.floors.specs.Admissions.{within_has}
 use Rattle.floors.proofs.Numbers.{bucket_take, paid_same}
-use Rattle.floors.proofs.Pickings.{picked, noted_picked}
+use Rattle.floors.proofs.Pickings.{noted_picked}
 
 module _ {C : Type 0} (K : Structure C) (L : Lawful K) (o : Outline) (area : List C) (formed : Formed (problem o area)) (values : List ℕ) (n : ℕ) (le : n ≤ length o.order) where
   -- the prefix
@@ -57,11 +56,10 @@ module _ {C : Type 0} (K : Structure C) (L : Lawful K) (o : Outline) (area : Lis
 
     -- a loop over the functions that counts those of noted buckets up to n comes to Paid's floor
     pub paid_told : (bs : List ℕ) → ((k : ℕ) → k < length o.functions → get_or bs k 0 ≡ bucket_in o.order (nth o.functions k))
-        → folded K K.neutral (map (held K o.sizes area (of values)) (picked bs n 0 o.functions)) ≡ paid_floor K (problem o area) given
+        → total K (map (held K o.sizes area (of values)) (picked bs n 0 o.functions)) ≡ paid_floor K (problem o area) given
     paid_told bs noted =
         let p = problem o area in
-        folded_total K L (map (held K o.sizes area (of values)) (picked bs n 0 o.functions))
-        ∙ ap (λ (fs : List Placed). total K (map (held K o.sizes area (of values)) fs)) (noted_picked o.order bs n o.functions noted)
+        ap (λ (fs : List Placed). total K (map (held K o.sizes area (of values)) fs)) (noted_picked o.order bs n o.functions noted)
         ∙ kept_along o.functions (covered p (shaped p formed))
         ∙ ap (λ m. costs_at K o.sizes (along o.order given) (kept (λ (f : Function C). leb (bucket_of o.order f.scope) m) (map (function_in o.sizes area) o.functions))) (sym given_length)
         ∙ paid_same L p (shaped p formed) given

@@ -8,12 +8,7 @@ use Rattle.variables.specs.Assignments.{Assignment}
 use Rattle.problems.specs.Records.{Placed, nth, held, held_by}
 use Rattle.floors.specs.Settings.{kept}
 use Rattle.floors.specs.ByNumber.{bucket_of}
-use Rattle.floors.specs.Sources.{bucket_in}
-
--- those whose bucket, noted under their number, is at most p
-abbrev pub picked : List ℕ → ℕ → ℕ → List Placed → List Placed
-picked bs p k [] = []
-picked bs p k (f ∷ fs) = cond (leb (get_or bs k 0) p) (f ∷ picked bs p (k + 1) fs) (picked bs p (k + 1) fs)
+use Rattle.floors.specs.Sources.{bucket_in, picked}
 
 picked_from : (bs : List ℕ) (p at k : ℕ) (fs : List Placed) (f : Placed) → nth fs k ≡ Some f
     → picked bs p at (drop k fs) ≡ cond (leb (get_or bs at 0) p) (f ∷ picked bs p (at + 1) (drop (k + 1) fs)) (picked bs p (at + 1) (drop (k + 1) fs))

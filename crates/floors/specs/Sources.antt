@@ -1,5 +1,5 @@
 -- The sources that are built.
-use Rattle.std.specs.Prelude.{◌≡◌, ℕ, ◌<◌, true, List, [], ◌∷◌, length, Some, None, Option, nat_le, slice_index}
+use Rattle.std.specs.Prelude.{◌≡◌, ℕ, ◌+◌, ◌<◌, true, cond, List, [], ◌∷◌, length, Some, None, Option, nat_le, slice_index}
 use Rattle.costs.specs.Structures.{Structure}
 use Rattle.problems.specs.Records.{Placed, nth, held}
 use Rattle.variables.specs.Assignments.{Assignment}
@@ -21,6 +21,11 @@ bucket_in order (Some f) = bucket_of order f.scope
 -- each function's bucket is noted
 abbrev pub Noted : {N : ℕ} → Places N → Outline → Type 0
 Noted b o = (k : ℕ) → k < length o.functions → slice_index b.places k ≡ bucket_in o.order (nth o.functions k)
+
+-- the records whose place, noted under their number from k on, is at most p
+abbrev pub picked : List ℕ → ℕ → ℕ → List Placed → List Placed
+picked ps p k [] = []
+picked ps p k (f ∷ fs) = cond (nat_le (slice_index ps k) p) (f ∷ picked ps p (k + 1) fs) (picked ps p (k + 1) fs)
 
 -- Paid suits every job, and has no cells
 abbrev pub paid_rules : {C : Type 0} → Structure C → Rules C Paid

@@ -1,14 +1,19 @@
 // Where functions lie: the bucket of a function is the place of its latest variable along the order.
 ghost use Rattle.std.specs.Prelude.{◌≡◌, ℕ, ◌<◌, map, length, slice_index};
-ghost use Rattle.variables.specs.Records.{order_of, scope_of};
-ghost use Rattle.problems.specs.Records.{nth, placed_of};
+ghost use Rattle.costs.specs.Structures.{total};
+ghost use Rattle.variables.specs.Assignments.{of};
+ghost use Rattle.variables.specs.Records.{order_of, scope_of, sizes_of, values_of};
+ghost use Rattle.problems.specs.Records.{held, nth, placed_of};
 ghost use Rattle.floors.specs.ByNumber.{place_from, bucket_of};
-ghost use Rattle.floors.specs.Sources.{bucket_in};
+ghost use Rattle.floors.specs.Sources.{bucket_in, picked};
 
 use crate::plain::Places;
+use costs::Cost;
 use problems::records::TableRecord;
 use variables::order::Order;
 use variables::scope::Scope;
+use variables::setting::Setting;
+use variables::sizes::Sizes;
 
 // The place of a variable along the order, from 1; 0 for one that it does not name.
 pub fn place(order: &Order, variable: u8) -> u8
@@ -53,11 +58,25 @@ impl<const N: usize> Places<N> {
         Places { places }
     }
 
-    // The places by number.
-    pub fn as_slice(&self) -> &[u8]
-        ensures places { result.now ≡ self.now.places }
-        ensures long { length result.now ≡ N }
+    // What the records whose noted place is at most `last` cost together at a setting.
+    pub fn cost_up_to<C: Cost, const END: usize>(
+        &self,
+        last: usize,
+        records: &[TableRecord<END>],
+        sizes: &Sizes,
+        setting: &Setting,
+        area: &[C],
+    ) -> C
+        ensures { result ≡ total C.Cost.structure (map (held C.Cost.structure (sizes_of sizes.now) area.now (of (values_of setting.now)))
+            (picked self.now.places last 0 (map placed_of records.now))) }
     {
-        &self.places
+        let mut sum = C::neutral();
+        for (k, record) in records.iter().enumerate() {
+            let place = self.places.get(k).copied().unwrap_or(0);
+            if place as usize <= last {
+                sum = sum.combine(record.cost(sizes, setting, area));
+            }
+        }
+        sum
     }
 }

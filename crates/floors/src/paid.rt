@@ -48,12 +48,13 @@ impl<C: Cost> FloorSource<C> for Paid {
     }
 
     fn floor(&self, shape: &Shape, prefix: &Prefix, area: &[C], _at: usize) -> C {
-        let mut sum = C::neutral();
-        for (k, function) in shape.functions().iter().enumerate() {
-            if self.buckets.places[k] as usize <= prefix.len() {
-                sum = sum.combine(function.cost(shape.domains(), prefix.values(), area));
-            }
-        }
-        sum
+        let values = prefix.values();
+        self.buckets.cost_up_to(
+            prefix.len(),
+            shape.functions(),
+            shape.domains(),
+            values,
+            area,
+        )
     }
 }

@@ -4,7 +4,7 @@ ghost use Rattle.std.specs.Prelude.{◌≡◌, length};
 use problems::functions::MOST_FUNCTIONS;
 use variables::sizes::MOST_VARIABLES;
 
-// A place along the order for each of N numbers: the places of variables, or those of functions' latest variables, which are their buckets.
+// A place along the order for each of N numbers, 0 where there is none: by variables their places, by functions (or messages) their buckets, the places of their latest variables.
 #[derive(Clone, Copy)]
 pub struct Places<const N: usize> {
     pub(crate) places: [u8; N],

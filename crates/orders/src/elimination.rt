@@ -89,7 +89,7 @@ impl Elimination {
     }
 
     // The first of the variables left whose elimination joins the fewest pairs.
-    // Not min_by_key: a list of neighbours takes memory, and its closure can't answer that there is none.
+    // Not min_by_key: a list of neighbours takes memory, and a key can't say that memory was wanting.
     fn fewest(&self) -> Result<u8, AllocError>
         ensures { IfOk result (λ v. v ≡ fewest (map vec_items self.now.cliques.items) self.now.left.items) }
     {

@@ -10,7 +10,7 @@ use problems::shape::Shape;
 use std::alloc::{AllocError, Global};
 
 // The variables as they are eliminated.
-// Not a chain: an elimination that finds no memory ends the loop.
+// Not a chain: its closure would change the elimination, and of that a proof knows nothing afterwards.
 fn eliminations(heap: Global, shape: &Shape) -> Result<Vec<u8>, AllocError>
     ensures { IfOk result (λ v. v.items ≡ eliminated (length (outline shape.now).sizes) (scopes (outline shape.now).functions)
         (numbered (length (outline shape.now).sizes))) }

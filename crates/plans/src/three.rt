@@ -29,8 +29,8 @@ pub(crate) fn pairs() -> [[Pair; 4]; 3] {
     ]
 }
 
-// Not shared with examples: only a public library crate could hold it, which is no plainer than these few lines; so too PAIRS and number.
 // One function more, with these costs of its four tuples.
+// Not shared with examples: only a public library crate could hold it, which is no plainer than these few lines; so too PAIRS and number.
 fn put<C: Cost, S>(
     job: &mut Job<C, S>,
     scope: &[u8],

@@ -9,7 +9,7 @@ use scripts::written::Written;
 use std::alloc::{AllocError, Global};
 
 // The word that a call begins its line with.
-// Not an impl of Display, here and below: calls, stages and verdicts stand in other crates.
+// Not an impl of Display, here and below: these words are of this page alone, and a call has two of them.
 fn name<C>(call: &Call<C>) -> &'static str {
     match call {
         Call::Open { .. } => "open",

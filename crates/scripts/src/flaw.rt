@@ -10,7 +10,7 @@ pub enum Flaw {
     Areas,
     // The line begins with no call's name.
     Call,
-    // A word is missing, or is none that may stand there.
+    // A word is missing, or may not stand there.
     Word,
     // A word is left over.
     Extra,
@@ -38,7 +38,7 @@ impl<T: Drop> From<NoPlace<T>> for Flaw {
 
 impl Flaw {
     // What is said of it.
-    // Not an impl of Display: the callers above print it by this name.
+    // Not an impl of Display: other crates call this by its name, and one form is enough.
     pub fn says(self) -> &'static str {
         match self {
             Flaw::Memory => "no memory",
