@@ -1,5 +1,5 @@
 // The plain record of a list, and what a full one answers.
-ghost use Rattle.std.specs.Prelude.{◌≡◌, ◌≤◌, length};
+ghost use Rattle.std.specs.Prelude.{◌≡◌, ◌≤◌, length, ⊤};
 
 use std::alloc::AllocError;
 
@@ -14,6 +14,10 @@ pub struct ShortList<T, const N: usize> {
 
 // Not a derive: none is made for a generic struct with a ghost field.
 impl<T: Copy, const N: usize> Clone for ShortList<T, N> {
+    ghost is_clone = { λ x y. y ≡ x };
+
+    ghost is_infallible = { λ _. ⊤ };
+
     fn clone(&self) -> Result<Self, AllocError> {
         Ok(*self)
     }

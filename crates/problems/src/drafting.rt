@@ -7,7 +7,7 @@ ghost use Rattle.problems.specs.Records.{placed_of, nth};
 ghost use Rattle.variables.specs.Refusals.{Answers, first_of};
 ghost use Rattle.variables.specs.Rules.{sizes_rows, order_rows};
 
-use crate::functions::{FunctionRecord, Functions};
+use crate::functions::{FunctionRecord, no_functions};
 use crate::records::MOST_CELLS;
 use crate::shape::Shape;
 use variables::order::Order;
@@ -40,7 +40,7 @@ impl Shape {
         Shape {
             sizes,
             order: Order::none(),
-            functions: Functions::none(FunctionRecord::entered(Scope::none(), 0)),
+            functions: no_functions(FunctionRecord::entered(Scope::none(), 0)),
             used: FIRST_TABLE,
         }
     }

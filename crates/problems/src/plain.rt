@@ -1,6 +1,7 @@
 // The plain record of a table. Its functions stand in the file `records`.
 ghost use Rattle.std.specs.Prelude.{◌≤◌};
 
+pub use crate::functions::{FunctionRecord, Functions};
 use variables::scope::Scope;
 
 // A function or a message: its scope, the bucket that it came from, and the cell at which its table starts, none past END.

@@ -1,4 +1,7 @@
 // The lent areas, one behind the other.
+ghost use Rattle.std.specs.Prelude.{◌≡◌, replicate, IfOk};
+
+use costs::Cost;
 use replay::calls::Part;
 use std::alloc::{AllocError, Global};
 
@@ -29,4 +32,14 @@ pub(crate) fn lent<C>(cells: &[C], part: Part) -> &[C] {
         .checked_add(part.len)
         .and_then(|end| cells.get(part.start..end))
         .unwrap_or(&[])
+}
+
+// So many cells of one content.
+// Not vec!: it asks of a clone that it is the same, which the trait Cost does not promise.
+pub(crate) fn filled<C: Cost>(heap: Global, content: C, count: usize) -> Result<Vec<C>, AllocError>
+    ensures { IfOk result (λ v. v.items ≡ replicate count content) }
+{
+    let mut cells = Vec::new(heap);
+    cells.resize_with(count, || content)?;
+    Ok(cells)
 }

@@ -1,6 +1,6 @@
 // A whole script, carried out and printed.
 use crate::calls::calls_of;
-use crate::lending::{cells_of, parts_of};
+use crate::lending::{cells_of, filled, parts_of};
 use crate::lines::answer_line;
 use buckets::mini_bucket::MiniBucket;
 use costs::Pair;
@@ -73,7 +73,7 @@ fn page_of<C: Written + Drop>(heap: Global, text: &[u8]) -> Result<Vec<u8>, Trou
     let script = script_of::<C>(heap, text)?;
     let lengths = script.areas.lengths.as_slice();
     let parts = parts_of(heap, lengths)?;
-    let mut cells = vec![in heap; script.areas.content; cells_of(lengths)]?;
+    let mut cells = filled(heap, script.areas.content, cells_of(lengths))?;
     let calls = calls_of(heap, script.requests, parts.as_slice(), cells.as_slice())?;
     let answers = answers(heap, script.source, cells.as_mut_slice(), calls.as_slice())?;
     let page = lines(heap, calls.as_slice(), answers.as_slice())?;

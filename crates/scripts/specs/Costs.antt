@@ -18,6 +18,10 @@ sum_word word = number word
 abbrev pub worst_word : List ℕ → Option ℕ
 worst_word word = at_most 65535 (number word)
 
+-- a number from 0 to 255
+abbrev pub short_word : List ℕ → Option ℕ
+short_word word = at_most 255 (number word)
+
 -- the place of the first comma, or the word's end
 abbrev pub comma : List ℕ → ℕ
 comma word = position_or_len (λ b. b == 44) word

@@ -1,4 +1,6 @@
 // The lines of a script that have words.
+ghost use Rattle.std.specs.Prelude.{◌≡◌};
+
 use crate::flaw::{Flaw, Mistake};
 use crate::numbers::word;
 use words::reader::Reader;
@@ -13,7 +15,9 @@ pub(crate) struct Line<'a> {
 
 impl Line<'_> {
     // A flaw in this line.
-    pub(crate) fn mistake(&self, flaw: Flaw) -> Mistake {
+    pub(crate) fn mistake(&self, flaw: Flaw) -> Mistake
+        ensures { (result.line ≡ self.now.number) × (result.flaw ≡ flaw) }
+    {
         Mistake {
             line: self.number,
             flaw,
@@ -30,7 +34,11 @@ fn bare(line: &[u8]) -> &[u8] {
 }
 
 // A line of a text by its index, if it has words.
+// Most lines without words are empty, and no word is looked for in these.
 pub(crate) fn line_at<'a>((index, text): (usize, &'a [u8])) -> Option<Line<'a>> {
+    if text.is_empty() {
+        return None;
+    }
     let mut rest = Reader::new(bare(text));
     let name = word(&mut rest)?;
     Some(Line {

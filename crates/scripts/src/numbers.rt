@@ -1,13 +1,14 @@
 // The words of a line, and numbers within a range.
-ghost use Rattle.std.specs.Prelude.{◌≡◌};
+ghost use Rattle.std.specs.Prelude.{◌≡◌, ℕ, List, Option};
+ghost use Rattle.std.specs.Result.{result_ok};
 ghost use Rattle.std.specs.Option.{option_map};
 ghost use Rattle.words.specs.Readers.{left_of};
 ghost use Rattle.words.specs.Readings.{rest_of};
+ghost use Rattle.scripts.specs.Costs.{short_word, sum_word, worst_word};
 ghost use Rattle.scripts.specs.Lines.{first_word};
 
 use crate::flaw::Flaw;
 use std::alloc::Global;
-use std::num::TryFromIntError;
 use words::number::parsed;
 use words::reader::Reader;
 
@@ -25,27 +26,51 @@ pub(crate) fn wanted<'a>(words: &mut Reader<'a>) -> Result<&'a [u8], Flaw> {
 }
 
 // A range of numbers, and what is said where one of them is wanted.
-pub(crate) trait Ranged: TryFrom<u32, Error = TryFromIntError> {
+pub(crate) trait Ranged: Sized {
     const FLAW: Flaw;
+
+    // The number that a word spells, if it is in the range.
+    ghost spelled: { List ℕ → Option Self };
+
+    fn spelled_by(word: &[u8]) -> Option<Self>
+        ensures { result ≡ spelled word.now };
 }
 
 impl Ranged for u8 {
     const FLAW: Flaw = Flaw::Small;
+
+    ghost spelled = { short_word };
+
+    fn spelled_by(word: &[u8]) -> Option<u8> {
+        parsed(word).and_then(|n| u8::try_from(n).ok())
+    }
 }
 
 impl Ranged for u16 {
     const FLAW: Flaw = Flaw::Middle;
+
+    ghost spelled = { worst_word };
+
+    fn spelled_by(word: &[u8]) -> Option<u16> {
+        parsed(word).and_then(|n| u16::try_from(n).ok())
+    }
 }
 
 impl Ranged for u32 {
     const FLAW: Flaw = Flaw::Large;
+
+    ghost spelled = { sum_word };
+
+    fn spelled_by(word: &[u8]) -> Option<u32> {
+        parsed(word)
+    }
 }
 
 // The number that a word spells.
-pub(crate) fn number<N: Ranged>(word: &[u8]) -> Result<N, Flaw> {
-    parsed(word)
-        .and_then(|n| N::try_from(n).ok())
-        .ok_or(N::FLAW)
+pub(crate) fn number<N: Ranged>(word: &[u8]) -> Result<N, Flaw>
+    ensures { result_ok result ≡ N.Ranged.spelled word.now }
+{
+    N::spelled_by(word).ok_or(N::FLAW)
 }
 
 // No word may be left over.

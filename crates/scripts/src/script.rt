@@ -1,4 +1,6 @@
 // A script, read to its end.
+ghost use Rattle.std.specs.Prelude.{◌≡◌, ◌<◌, ◌+◌, ◌-◌, ◌^◌};
+
 use crate::calls::call;
 use crate::flaw::{Flaw, Mistake};
 use crate::heading::{areas_line, kind_line, source_line};
@@ -73,7 +75,9 @@ pub struct Script<C> {
 }
 
 // A heading line that is missing, behind that many lines.
-fn missing(lines: usize, flaw: Flaw) -> Mistake {
+fn missing(lines: usize, flaw: Flaw) -> Mistake
+    ensures { (lines < 2 ^ 64 - 1 → result.line ≡ lines + 1) × (result.flaw ≡ flaw) }
+{
     Mistake {
         line: lines.saturating_add(1),
         flaw,

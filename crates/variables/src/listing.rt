@@ -6,5 +6,6 @@ ghost use Rattle.variables.specs.Lists.{has};
 pub fn lists(variables: &[u8], variable: u8) -> bool
     ensures { result ≡ has variables.now variable }
 {
-    variables.contains(&variable)
+    // Not contains: it looks at blocks of bytes, and the lists here are of a few.
+    variables.iter().any(|listed| *listed == variable)
 }
