@@ -34,7 +34,7 @@ fn bare(line: &[u8]) -> &[u8] {
 }
 
 // A line of a text by its index, if it has words.
-// Most lines without words are empty, and no word is looked for in these.
+// An empty line has no words, and none is looked for in it.
 pub(crate) fn line_at<'a>((index, text): (usize, &'a [u8])) -> Option<Line<'a>> {
     if text.is_empty() {
         return None;
